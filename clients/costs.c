@@ -150,6 +150,28 @@ static int reach(void) {
     for (uint32_t i = 0; i < 1000; i++) well(piecepick_reach(picker, 3, i & 1 ? 7 : 4, &answer));
     return 1000;
 }
+static int alone(void) {
+    for (uint32_t i = 0; i < 1000; i++) well(piecepick_alone(picker, 3, i & 1 ? 0 : 1, &answer));
+    return 1000;
+}
+/* Eight others work alone, each at a piece of its own. */
+static int ask_beside_alone(void) {
+    enum { FIRST = 10, BEHIND = 18 };
+    for (uint32_t worker = FIRST; worker < BEHIND; worker++) {
+        well(piecepick_alone(picker, worker, 1, &answer));
+        well(piecepick_next(picker, worker, worker, &answer));
+        if (answer.kind != PIECEPICK_K_REQUEST) exit(1);
+    }
+    double begin = now();
+    int calls = ask_and_release();
+    double end = now();
+    for (uint32_t worker = FIRST; worker < BEHIND; worker++) {
+        well(piecepick_alone(picker, worker, 0, &answer));
+        well(piecepick_choke(picker, worker, &answer));
+        well(piecepick_unchoke(picker, worker, &answer));
+    }
+    return -(int)((end - begin) / calls);
+}
 static int set_level(void) {
     for (uint32_t i = 0; i < 1000; i++) well(piecepick_set_level(picker, i, 5, &answer));
     for (uint32_t i = 0; i < 1000; i++) well(piecepick_set_level(picker, i, 4, &answer));
@@ -226,6 +248,9 @@ static const struct {
     {"next, PIPE_FULL", full}, {"choke, unchoke with nothing asked", choke}, {"depth", depth},
     {"reach", reach}, {"set_level, from 4 to 5 or back", set_level}, {"set_levels that change nothing", set_levels}, {"want that changes nothing", want},
     {"set_in_order", in_order}, {"set_in_order_from", in_order_from}, {"epoch", epoch}, {"rule", rule}, {"is_had", is_had},
+    /* From here on a peer was told to work alone, which each ask of this picker looks at. */
+    {"alone", alone}, {"next with a request, and its release, once a peer worked alone", ask_and_release},
+    {"the same where eight others work alone", ask_beside_alone},
 };
 
 static void measure(uint32_t count) {

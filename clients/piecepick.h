@@ -198,6 +198,12 @@ PIECEPICK_MUST piecepick_status piecepick_depth(piecepick_picker *picker, uint32
    and the answer is IDLE while it shows a wanted piece that isn't had. What is asked stays asked. QUIET, or REFUSED by NOT_JOINED or
    WRONG_LEVEL. */
 PIECEPICK_MUST piecepick_status piecepick_reach(piecepick_picker *picker, uint32_t worker, uint32_t level, piecepick_answer *answer);
+/* From now on the peer works alone; or, where `yes` is 0, like the others again, as each peer does from when it joins. One that works alone begins
+   pieces, and goes on with those that nobody else brought or is expected to bring a block of. Others are asked for none of the blocks of a piece
+   that is its own, until endgame. The piece is so no more once the peer chokes us, leaves or is told off, or another one brings a block of the
+   piece. So the sender of a whole piece is known where a check failed, or a fast peer or a web seed has pieces to itself. Its pieces wait for it:
+   tell it off where it gets slow, and where it is IDLE with nothing in flight. What is asked stays asked. QUIET, or REFUSED by NOT_JOINED. */
+PIECEPICK_MUST piecepick_status piecepick_alone(piecepick_picker *picker, uint32_t worker, uint32_t yes, piecepick_answer *answer);
 /* What to say to the peer next: send what it answers while it is CANCEL or REQUEST. The word is the caller's randomness. */
 PIECEPICK_MUST piecepick_status piecepick_next(piecepick_picker *picker, uint32_t worker, uint64_t word, piecepick_answer *answer);
 

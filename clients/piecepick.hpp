@@ -172,6 +172,7 @@ public:
     Answer late(std::uint32_t worker, std::uint32_t piece, std::uint32_t begin) { return answer(piecepick_late, worker, piece, begin); }
     Answer depth(std::uint32_t worker, std::uint32_t blocks) { return answer(piecepick_depth, worker, blocks); }
     Answer reach(std::uint32_t worker, std::uint32_t level) { return answer(piecepick_reach, worker, level); }
+    Answer alone(std::uint32_t worker, bool yes) { return answer(piecepick_alone, worker, std::uint32_t{yes}); }
     [[nodiscard]] Answer arrived(std::uint32_t worker, std::uint32_t piece, std::uint32_t begin, Bytes bytes)
     {
         return answer(piecepick_arrived, worker, piece, begin, bytes.data(), bytes.size());

@@ -644,6 +644,7 @@ BY_NUMBER(release_of, piecepick_release(picker, at, 0, 0, answer))
 BY_NUMBER(late_of, piecepick_late(picker, at, 0, 0, answer))
 BY_NUMBER(depth_of, piecepick_depth(picker, at, 7, answer))
 BY_NUMBER(reach_of, piecepick_reach(picker, at, 4, answer))
+BY_NUMBER(alone_of, piecepick_alone(picker, at, 1, answer))
 BY_NUMBER(next_of, piecepick_next(picker, at, 1, answer))
 BY_NUMBER(outstanding_of, piecepick_outstanding_at(picker, at, 0, answer))
 BY_NUMBER(have_at, piecepick_have(picker, 0, at, answer))
@@ -673,9 +674,9 @@ static piecepick_status settle_at(piecepick_picker *picker, uint32_t piece, piec
 /* The first are refused where no peer has joined. `join` isn't, and of the last one asks only. */
 static by_number *const AT_WORKER[] = {
     piecepick_leave, piecepick_choke, piecepick_unchoke, bits_of, haves_of, have_of, lack_of, arrived_of, release_of, late_of, depth_of, reach_of,
-    next_of, piecepick_join, outstanding_of,
+    alone_of, next_of, piecepick_join, outstanding_of,
 };
-enum { NEED_A_PEER = 13, AT_WORKERS = 15 };
+enum { NEED_A_PEER = 14, AT_WORKERS = 16 };
 static by_number *const AT_PIECE[] = {have_at, lack_at, arrived_at, release_at, late_at, level_at};
 static by_flags *const WITH_FLAGS[] = {bits_by, haves_by, piecepick_want};
 
@@ -757,6 +758,7 @@ static void try_statuses(uint32_t keeps)
     /* Where no peer has joined. */
     for (size_t at = 0; at < NEED_A_PEER; at++) REFUSED(AT_WORKER[at](picker, 1, &answer), PIECEPICK_R_NOT_JOINED);
     REFUSED(piecepick_reach(picker, 1, 8, &answer), PIECEPICK_R_NOT_JOINED);
+    REFUSED(piecepick_alone(picker, 1, 0, &answer), PIECEPICK_R_NOT_JOINED);
     NO_ANSWER(piecepick_lack(picker, 1, pieces, &answer), PIECEPICK_E_PIECE);
     NO_ANSWER(piecepick_late(picker, 1, pieces, 0, &answer), PIECEPICK_E_PIECE);
     if (is_nothing) REFUSED(restore_of(picker, 1, &answer), PIECEPICK_R_NOT_JOINED);
@@ -1801,6 +1803,165 @@ static void try_late_keeps_none_back(uint32_t keeps)
     }
 }
 
+/* ---- A peer that works alone. */
+
+/* Two peers have the first two pieces, and no piece comes at random. The second peer works alone, and has begun piece 0. */
+static piecepick_picker *open_with_alone(uint32_t keeps)
+{
+    piecepick_options options = PIECEPICK_OPTIONS;
+    piecepick_picker *picker;
+    piecepick_answer answer;
+    options.keeps = keeps;
+    options.workers = 3;
+    options.random = 0;
+    picker = open_by(&options);
+    come_with(picker, 0, two);
+    come_with(picker, 1, two);
+    QUIET(piecepick_alone(picker, 1, 1, &answer));
+    asks_by(picker, 1, 0, 0, 0, PIECEPICK_RULE_RAREST);
+    return picker;
+}
+
+/* Another peer isn't asked for the second block of its piece, until it is told off; nor is it asked for that of another peer's. */
+static void try_alone(uint32_t keeps)
+{
+    piecepick_picker *picker = open_with_alone(keeps);
+    piecepick_answer answer;
+    uint64_t before;
+    asks_by(picker, 0, 0, 1, 0, PIECEPICK_RULE_RAREST);
+    asks_by(picker, 0, 0, 1, BLOCK, PIECEPICK_RULE_BEGUN);
+    GETS(piecepick_next(picker, 0, 0, &answer), PIECEPICK_K_IDLE);
+    before = still_picture(picker);
+    QUIET(piecepick_alone(picker, 1, MORE, &answer)); /* any number but 0, and told twice it is as once */
+    EQUAL(still_picture(picker), before);
+    GETS(piecepick_next(picker, 0, 0, &answer), PIECEPICK_K_IDLE);
+    QUIET(piecepick_alone(picker, 1, 0, &answer));
+    EQUAL(still_picture(picker), before);
+    asks_by(picker, 0, 0, 0, BLOCK, PIECEPICK_RULE_BEGUN);
+    if (keeps == PIECEPICK_KEEPS_JOURNAL) EQUAL(piecepick_audit(picker), PIECEPICK_OK);
+    piecepick_close(&picker);
+    /* A piece that another peer has begun isn't for one that works alone; and each of two such peers has pieces of its own. */
+    for (uint32_t both = 0; both < 2; both++) {
+        picker = open_with_alone(keeps);
+        QUIET(piecepick_alone(picker, 0, 1, &answer));
+        QUIET(piecepick_alone(picker, 1, both, &answer));
+        asks_by(picker, 0, 0, 1, 0, PIECEPICK_RULE_RAREST);
+        asks_by(picker, 1, 0, 0, BLOCK, PIECEPICK_RULE_BEGUN);
+        GETS(piecepick_next(picker, 1, 0, &answer), PIECEPICK_K_IDLE);
+        asks_by(picker, 0, 0, 1, BLOCK, PIECEPICK_RULE_BEGUN);
+        /* Endgame shares them. */
+        for (uint32_t begin = 0; begin < PIECE; begin += BLOCK) {
+            asks_by(picker, 0, 0, 0, begin, PIECEPICK_RULE_ENDGAME);
+            asks_by(picker, 1, 0, 1, begin, PIECEPICK_RULE_ENDGAME);
+        }
+        for (uint32_t worker = 0; worker < 2; worker++) GETS(piecepick_next(picker, worker, 0, &answer), PIECEPICK_K_IDLE);
+        if (keeps == PIECEPICK_KEEPS_JOURNAL) EQUAL(piecepick_audit(picker), PIECEPICK_OK);
+        piecepick_close(&picker);
+    }
+    /* In order too. */
+    picker = open_with_alone(keeps);
+    QUIET(piecepick_set_in_order(picker, 1, &answer));
+    asks_by(picker, 0, 0, 1, 0, PIECEPICK_RULE_IN_ORDER);
+    asks_by(picker, 1, 0, 0, BLOCK, PIECEPICK_RULE_IN_ORDER);
+    if (keeps == PIECEPICK_KEEPS_JOURNAL) EQUAL(piecepick_audit(picker), PIECEPICK_OK);
+    piecepick_close(&picker);
+}
+
+/* A piece is its peer's own no more in each of these ways. */
+static void try_alone_ends(uint32_t keeps)
+{
+    enum { TOLD_OFF, CHOKE, LEAVE, LATE, BLOCK_CAME, ENDS };
+    for (int end = 0; end < ENDS; end++) {
+        piecepick_picker *picker = open_with_alone(keeps);
+        piecepick_answer answer;
+        uint32_t number;
+        if (end < LATE) EQUAL(bring(picker, 1, 0, 0, 0), PIECEPICK_K_STORED);
+        for (uint32_t begin = 0; begin < PIECE; begin += BLOCK)
+            BLOCKS(piecepick_next(picker, 0, 0, &answer), PIECEPICK_K_REQUEST, 1, begin);
+        GETS(piecepick_next(picker, 0, 0, &answer), PIECEPICK_K_IDLE);
+        if (end == TOLD_OFF) {
+            QUIET(piecepick_alone(picker, 1, 0, &answer));
+        } else if (end == CHOKE) {
+            QUIET(piecepick_choke(picker, 1, &answer));
+        } else if (end == LEAVE) {
+            QUIET(piecepick_leave(picker, 1, &answer));
+        } else if (end == LATE) {
+            QUIET(piecepick_late(picker, 1, 0, 0, &answer)); /* nobody is expected to bring a block of it, so it hasn't begun */
+            asks_by(picker, 0, 0, 0, 0, PIECEPICK_RULE_LATE);
+        } else {
+            GETS(piecepick_join(picker, 2, &answer), PIECEPICK_K_JOINED);
+            EQUAL(bring(picker, 2, 0, 0, 0), PIECEPICK_K_STORED);
+        }
+        BLOCKS(piecepick_next(picker, 0, 0, &answer), PIECEPICK_K_REQUEST, 0, BLOCK);
+        if (end == BLOCK_CAME) {
+            BLOCKS(piecepick_next(picker, 1, 0, &answer), PIECEPICK_K_CANCEL, 0, 0);
+            QUIET(piecepick_release(picker, 0, 0, BLOCK, &answer));
+            GETS(piecepick_next(picker, 1, 0, &answer), PIECEPICK_K_IDLE); /* both pieces are others' too, and one block is free */
+            NUMBER(piecepick_outstanding(picker, 1, &number), 0);
+        }
+        if (keeps == PIECEPICK_KEEPS_JOURNAL) EQUAL(piecepick_audit(picker), PIECEPICK_OK);
+        piecepick_close(&picker);
+    }
+}
+
+/* It goes with its peer, and a choke doesn't forget it. A late block of a piece of which others are held is for no other peer. */
+static void try_alone_lasts(uint32_t keeps)
+{
+    piecepick_picker *picker = open_with_alone(keeps);
+    piecepick_answer answer;
+    QUIET(piecepick_leave(picker, 1, &answer));
+    REFUSED(piecepick_alone(picker, 1, 1, &answer), PIECEPICK_R_NOT_JOINED);
+    come_with(picker, 1, two);
+    asks_by(picker, 1, 0, 0, 0, PIECEPICK_RULE_RAREST);
+    asks_by(picker, 0, 0, 0, BLOCK, PIECEPICK_RULE_BEGUN);
+    if (keeps == PIECEPICK_KEEPS_JOURNAL) EQUAL(piecepick_audit(picker), PIECEPICK_OK);
+    piecepick_close(&picker);
+    picker = open_with_alone(keeps);
+    QUIET(piecepick_choke(picker, 1, &answer));
+    QUIET(piecepick_unchoke(picker, 1, &answer));
+    asks_by(picker, 1, 0, 0, 0, PIECEPICK_RULE_RAREST);
+    EQUAL(bring(picker, 1, 0, 0, 0), PIECEPICK_K_STORED);
+    asks_by(picker, 0, 0, 1, 0, PIECEPICK_RULE_RAREST);
+    asks_by(picker, 0, 0, 1, BLOCK, PIECEPICK_RULE_BEGUN);
+    asks_by(picker, 1, 0, 0, BLOCK, PIECEPICK_RULE_BEGUN);
+    QUIET(piecepick_late(picker, 1, 0, BLOCK, &answer));
+    GETS(piecepick_next(picker, 0, 0, &answer), PIECEPICK_K_IDLE);
+    GETS(piecepick_next(picker, 1, 0, &answer), PIECEPICK_K_IDLE);
+    QUIET(piecepick_alone(picker, 1, 0, &answer));
+    asks_by(picker, 0, 0, 0, BLOCK, PIECEPICK_RULE_LATE);
+    if (keeps == PIECEPICK_KEEPS_JOURNAL) EQUAL(piecepick_audit(picker), PIECEPICK_OK);
+    piecepick_close(&picker);
+}
+
+/* A piece of two senders is wrong. Each of them works alone then, and the next wrong piece of the liar has one sender. */
+static void try_liar(uint32_t keeps)
+{
+    piecepick_picker *picker = open_for(keeps, 2);
+    piecepick_answer answer;
+    uint32_t number;
+    for (uint32_t worker = 0; worker < 2; worker++) come(picker, worker);
+    asks_by(picker, 0, 0, 0, 0, PIECEPICK_RULE_RANDOM);
+    asks_by(picker, 1, 0, 0, BLOCK, PIECEPICK_RULE_BEGUN);
+    EQUAL(bring(picker, 0, 0, 0, 0), PIECEPICK_K_STORED);
+    EQUAL(bring(picker, 1, 0, BLOCK, 1), PIECEPICK_K_COMPLETED);
+    for (uint32_t index = 0; index < 2; index++) NUMBER(piecepick_sender(picker, 0, index, &number), index);
+    EQUAL(settle(picker, keeps, 0, 1), PIECEPICK_K_FAILED);
+    for (uint32_t worker = 0; worker < 2; worker++) QUIET(piecepick_alone(picker, worker, 1, &answer));
+    for (uint32_t begin = 0; begin < PIECE; begin += BLOCK)
+        for (uint32_t worker = 0; worker < 2; worker++) BLOCKS(piecepick_next(picker, worker, worker, &answer), PIECEPICK_K_REQUEST, worker, begin);
+    for (uint32_t worker = 0; worker < 2; worker++) {
+        EQUAL(bring(picker, worker, worker, 0, 0), PIECEPICK_K_STORED);
+        EQUAL(bring(picker, worker, worker, BLOCK, worker == 1), PIECEPICK_K_COMPLETED);
+        for (uint32_t index = 0; index < 2; index++) NUMBER(piecepick_sender(picker, worker, index, &number), worker);
+        EQUAL(settle(picker, keeps, worker, worker == 1), worker == 1 ? PIECEPICK_K_FAILED : PIECEPICK_K_HAD);
+        if (worker == 0) QUIET(piecepick_alone(picker, 0, 0, &answer));
+        else QUIET(piecepick_leave(picker, 1, &answer));
+    }
+    BLOCKS(piecepick_next(picker, 0, 1, &answer), PIECEPICK_K_REQUEST, 1, 0);
+    if (keeps == PIECEPICK_KEEPS_JOURNAL) EQUAL(piecepick_audit(picker), PIECEPICK_OK);
+    piecepick_close(&picker);
+}
+
 /* ---- When a peer is worth another question. */
 
 static uint64_t epoch(piecepick_picker *picker)
@@ -1843,6 +2004,7 @@ static void try_epochs(uint32_t keeps)
     STAYS(QUIET(piecepick_set_in_order_from(picker, 8, &answer)));
     STAYS(QUIET(piecepick_reach(picker, 0, 3, &answer)));
     STAYS(QUIET(piecepick_reach(picker, 0, 7, &answer)));
+    for (uint32_t yes = 2; yes > 0; yes--) RISES(QUIET(piecepick_alone(picker, 0, yes - 1, &answer))); /* others may have its pieces */
     /* Two blocks of piece 0 are asked of the first peer, so the second one has nothing. */
     for (uint32_t index = 0; index < 2; index++) {
         STAYS(EQUAL(piecepick_next(picker, 0, 1, &answer), PIECEPICK_OK));
@@ -1864,6 +2026,8 @@ static void try_epochs(uint32_t keeps)
     STAYS(REFUSED(piecepick_lack(picker, 2, 0, &answer), PIECEPICK_R_NOT_JOINED));
     STAYS(REFUSED(piecepick_set_level(picker, 0, 8, &answer), PIECEPICK_R_WRONG_LEVEL));
     STAYS(REFUSED(piecepick_reach(picker, 0, 8, &answer), PIECEPICK_R_WRONG_LEVEL));
+    STAYS(REFUSED(piecepick_alone(picker, 2, 1, &answer), PIECEPICK_R_NOT_JOINED));
+    STAYS(NO_ANSWER(piecepick_alone(picker, 3, 1, &answer), PIECEPICK_E_WORKER));
     STAYS(REFUSED(piecepick_set_in_order_from(picker, 9, &answer), PIECEPICK_R_WRONG_LEVEL));
     STAYS(NO_ANSWER(piecepick_choke(picker, 3, &answer), PIECEPICK_E_WORKER));
     STAYS(NO_ANSWER(piecepick_lack(picker, 3, 0, &answer), PIECEPICK_E_WORKER));
@@ -2019,8 +2183,52 @@ static piecepick_pick_rule rule_of(piecepick_picker *picker, uint32_t random, ui
     return had < random ? PIECEPICK_RULE_RANDOM : PIECEPICK_RULE_RAREST;
 }
 
+/* Which peers work alone, and which let themselves be asked, for calls at random. */
+static int is_alone[PEERS], is_open[PEERS];
+
+/* Of how many blocks of the piece, but for the one that begins there, somebody has to do with; and of how many another peer has. */
+static void deals_with(piecepick_picker *picker, uint32_t peer, uint32_t piece, uint32_t begin, uint32_t *all_of, uint32_t *of_others)
+{
+    *all_of = *of_others = 0;
+    for (uint32_t place = 0; place < length_of(piece); place += BLOCK) {
+        uint32_t sender, askers = askers_of(picker, 0, piece, place);
+        if (place == begin) continue;
+        if (piecepick_sender(picker, piece, place / BLOCK, &sender) == PIECEPICK_OK) {
+            ++*all_of;
+            *of_others += sender != peer;
+        } else {
+            *all_of += askers > 0;
+            *of_others += askers > times_at(picker, peer, 0, piece, place);
+        }
+    }
+}
+
+/* Whether the peer may have been the first to be asked for the block: the piece is all its own, if it works alone, and else no other peer's own. */
+static int may_be_first(piecepick_picker *picker, uint32_t worker, uint32_t piece, uint32_t begin)
+{
+    uint32_t all_of, of_others;
+    if (is_alone[worker]) {
+        deals_with(picker, worker, piece, begin, &all_of, &of_others);
+        return of_others == 0;
+    }
+    for (uint32_t peer = 0; peer < PEERS; peer++) {
+        deals_with(picker, peer, piece, begin, &all_of, &of_others);
+        if (peer != worker && is_alone[peer] && is_open[peer] && all_of > 0 && of_others == 0) return 0;
+    }
+    return 1;
+}
+
+/* What was answered to a call of the worker by this number, of those of the next function, says whether its peer works alone and is open. */
+static void follow_alone(uint32_t worker, uint32_t action, int yes, const piecepick_answer *answer)
+{
+    if (action > 17 || answer->kind == PIECEPICK_K_REFUSED) return;
+    if (action < 4) is_alone[worker] = is_open[worker] = 0;
+    else if (action < 9) is_open[worker] = action >= 5;
+    else if (action == 17) is_alone[worker] = yes;
+}
+
 /* Calls at random. A peer that had nothing to be asked for has nothing while its own worker tells nothing, and the epoch stays. Each request
-   tells its rule, and is of a block that wasn't in flight there. */
+   tells its rule, and is of a block that wasn't in flight there. None is first for a block of a piece that is another one's own. */
 static void try_epochs_at_random(uint32_t keeps)
 {
     enum { STEPS = 20000 };
@@ -2030,7 +2238,7 @@ static void try_epochs_at_random(uint32_t keeps)
     uint64_t state = 1, idle_at[PEERS] = {0};
     uint32_t complete = 1, number;
     int is_idle[PEERS] = {0}, is_wrong[MOST_PIECES] = {0};
-    long again = 0, by[PIECEPICK_RULE_LATE + 1] = {0};
+    long again = 0, by[PIECEPICK_RULE_LATE + 1] = {0}, apart = 0;
     options.keeps = keeps;
     options.workers = PEERS;
     options.depth = 5;
@@ -2042,11 +2250,13 @@ static void try_epochs_at_random(uint32_t keeps)
             options.rush = 4 - options.rush; /* 1 and 3 by turns */
             memset(is_idle, 0, sizeof is_idle);
             memset(is_late, 0, sizeof is_late);
+            memset(is_alone, 0, sizeof is_alone);
+            memset(is_open, 0, sizeof is_open);
         }
         state = state * 6364136223846793005u + 1442695040888963407u;
         uint32_t worker = (uint32_t)(state >> 33) % PEERS, piece = (uint32_t)(state >> 37) % pieces, action = (uint32_t)(state >> 45) % 64;
         uint32_t level = (uint32_t)(state >> 52) % 8, begin = blocks_of(piece) > 1 && state >> 63 ? BLOCK : 0;
-        int wrong = 0;
+        int wrong = 0, yes = (int)(state >> 57) % 4 > 0;
         piecepick_status status = PIECEPICK_OK;
         const int was_idle = is_idle[worker];
         /* A block that is given up or comes is mostly one that was asked for. */
@@ -2068,8 +2278,9 @@ static void try_epochs_at_random(uint32_t keeps)
         else if (action < 14) status = piecepick_have(picker, worker, piece, &answer);
         else if (action < 15) status = piecepick_lack(picker, worker, piece, &answer);
         else if (action < 16) status = piecepick_reach(picker, worker, level, &answer);
+        else if (action < 16 + (level & 1)) status = piecepick_depth(picker, worker, level + 1, &answer);
         else if (action < 17) status = piecepick_haves(picker, worker, all, flags_len, &answer);
-        else if (action < 18) status = piecepick_depth(picker, worker, level + 1, &answer);
+        else if (action < 18) status = piecepick_alone(picker, worker, (uint32_t)yes, &answer);
         else if (action < 20) status = piecepick_release(picker, worker, piece, begin, &answer);
         else if (action < 24) {
             status = piecepick_late(picker, worker, piece, begin, &answer);
@@ -2083,6 +2294,8 @@ static void try_epochs_at_random(uint32_t keeps)
                 NUMBER(piecepick_rule(picker, answer.piece, answer.begin / BLOCK, &number),
                        rule_of(picker, options.random, answer.piece, answer.begin));
                 by[number]++;
+                if (number != PIECEPICK_RULE_ENDGAME) EQUAL(may_be_first(picker, worker, answer.piece, answer.begin), 1);
+                apart += is_alone[worker];
             }
         } else if (action < 60) {
             wrong = begin + BLOCK >= length_of(piece) && level < 3;
@@ -2102,6 +2315,7 @@ static void try_epochs_at_random(uint32_t keeps)
             else if (action < 62) status = piecepick_set_in_order_from(picker, level + 1, &answer);
         }
         EQUAL(status, PIECEPICK_OK);
+        follow_alone(worker, action, yes, &answer);
         end_late_requests(picker);
         for (uint32_t peer = 0; peer < PEERS; peer++) {
             if (!is_idle[peer] || epoch(picker) != idle_at[peer]) continue;
@@ -2112,6 +2326,7 @@ static void try_epochs_at_random(uint32_t keeps)
         EQUAL(piecepick_is_complete(picker, &complete), PIECEPICK_OK);
     }
     EQUAL(again > 1000, 1);
+    EQUAL(apart > 100, 1);
     for (size_t rule = PIECEPICK_RULE_IN_ORDER; rule <= PIECEPICK_RULE_LATE; rule++) EQUAL(by[rule] > 0, 1);
     if (keeps == PIECEPICK_KEEPS_JOURNAL) EQUAL(piecepick_audit(picker), PIECEPICK_OK);
     piecepick_close(&picker);
@@ -2741,6 +2956,7 @@ static void run(uint32_t keeps)
         AGAIN_IF(!is_nothing, piecepick_unchoke(picker, worker, &answer));
         AGAIN_IF(!is_nothing, piecepick_depth(picker, worker, 7, &answer));
         AGAIN_IF(is_journal, piecepick_reach(picker, worker, worker == 0 ? 7 : 4, &answer));
+        AGAIN_IF(is_journal, piecepick_alone(picker, worker, worker, &answer));
     }
     if (is_nothing) {
         EQUAL(piecepick_join(picker, 2, &answer), PIECEPICK_OK);
@@ -2966,6 +3182,10 @@ int main(int argc, char **argv)
         {"the last block of all, which is late", try_late_last},
         {"late blocks of begun pieces", try_late_open_pieces},
         {"pieces whose blocks are late at their own peer", try_late_keeps_none_back},
+        {"a peer that works alone", try_alone},
+        {"ends of a piece of its own", try_alone_ends},
+        {"how long it works alone", try_alone_lasts},
+        {"a liar that works alone", try_liar},
         {"epochs", try_epochs},
         {"epochs, in calls at random", try_epochs_at_random},
         {"senders", try_senders},

@@ -173,6 +173,17 @@ int main()
     well = well && dropping.set_in_order(true).kind == PIECEPICK_K_QUIET && dropping.next(0, 0).piece == 1;
     well = well && std::string(piecepick_rule_text(dropping.rule(1, 0))) == "in order" && dropping.lack(0, 1).interesting == 0;
     well = well && throws(PIECEPICK_E_PIECE, [&] { dropping.lack(0, 3); }) && throws(PIECEPICK_E_BLOCK, [&] { (void)dropping.rule(0, 1); });
+    /* A peer works alone: the other one isn't asked for the second block of its piece, until it is told off. */
+    Picker apart(2 * 16384, 4 * 16384, {digests, 40}, Options());
+    for (std::uint32_t worker = 0; worker < 2; worker++) {
+        apart.join(worker);
+        apart.bits(worker, two);
+        apart.unchoke(worker);
+    }
+    well = well && apart.alone(1, true).kind == PIECEPICK_K_QUIET && apart.next(1, 0).kind == PIECEPICK_K_REQUEST && apart.next(0, 0).piece == 1;
+    well = well && apart.next(0, 0).piece == 1 && apart.next(0, 0).kind == PIECEPICK_K_IDLE;
+    well = well && apart.alone(1, false).kind == PIECEPICK_K_QUIET && apart.next(0, 0).begin == 16384 && apart.outstanding_at(0, 2).piece == 0;
+    well = well && throws(PIECEPICK_E_WORKER, [&] { apart.alone(50, true); });
     first = open();
     return well && !first.is_complete() && throws(PIECEPICK_E_NOT_HAD, [&] { first.read(0, room); }) ? 0 : 1;
 }

@@ -373,6 +373,28 @@ EXAMPLES: dict[str, tuple[str, int, list[str]]] = {  # name: torrent, workers, l
         "0 unchoke = quiet", "0 next 0 = request 0 0 3", "0 late 0 1 = refused NotAsked", "0 late 9 0 = refused NotAsked"]
         + enters(1, "80") + ["1 late 0 0 = refused NotAsked", "0 late 0 0 = quiet", "0 late 0 0 = quiet", "0 release 0 0 = quiet",
                              "0 late 0 0 = refused NotAsked"]),
+    "alone_begins_its_own": ("two_blocks", 2, enters(0, "c0") + enters(1, "c0") + [
+        "0 next 0 = request 0 0 16384", "1 alone yes = quiet", "1 next 0 = request 1 0 16384", "0 next 0 = request 0 16384 16384",
+        "0 next 0 = idle", "1 next 0 = request 1 16384 16384", "0 next 0 = request 1 0 16384"]),
+    "alone_told_off": ("two_blocks", 2, enters(0, "c0") + enters(1, "c0") + [
+        "1 alone yes = quiet", "1 next 0 = request 0 0 16384", "0 next 0 = request 1 0 16384", "0 next 0 = request 1 16384 16384",
+        "0 next 0 = idle", "1 alone no = quiet", "0 next 0 = request 0 16384 16384"]),
+    "choke_shares_its_pieces": ("two_blocks", 2, enters(0, "c0") + enters(1, "c0") + [
+        "1 alone yes = quiet", "1 next 0 = request 0 0 16384", "1 block 0 0 X = stored", "0 next 0 = request 1 0 16384",
+        "0 next 0 = request 1 16384 16384", "0 next 0 = idle", "1 choke = quiet", "0 next 0 = request 0 16384 16384"]),
+    "another_brings_a_block_of_its_own": ("two_blocks", 2, enters(0, "c0") + enters(1, "c0") + [
+        "0 next 0 = request 0 0 16384", "0 release 0 0 = quiet", "1 alone yes = quiet", "1 next 0 = request 0 0 16384",
+        "0 block 0 0 X = stored", "1 next 0 = cancel 0 0 16384", "1 next 0 = request 1 0 16384", "0 next 0 = request 0 16384 16384"]),
+    "alone_goes_with_its_peer": ("two_blocks", 2, ["0 join = joined", "0 alone yes = quiet", "0 leave = quiet"]
+        + enters(0, "c0") + enters(1, "c0") + ["1 next 0 = request 0 0 16384", "0 next 0 = request 0 16384 16384"]),
+    "alone_in_order": ("two_blocks", 2, ["0 inorder yes = quiet"] + enters(0, "c0") + enters(1, "c0") + [
+        "1 alone yes = quiet", "1 next 0 = request 0 0 16384", "0 next 0 = request 1 0 16384", "1 next 0 = request 0 16384 16384"]),
+    "two_work_alone": ("two_blocks", 2, enters(0, "c0") + enters(1, "c0") + [
+        "0 alone yes = quiet", "1 alone yes = quiet", "0 next 0 = request 0 0 16384", "1 next 0 = request 1 0 16384",
+        "0 next 0 = request 0 16384 16384", "0 next 0 = idle", "1 next 0 = request 1 16384 16384", "0 next 0 = request 1 0 16384"]),
+    "refusals_of_alone": ("two_blocks", 1, [
+        "0 alone yes = refused NotJoined", "0 join = joined", "0 alone yes = quiet", "0 alone yes = quiet", "0 alone no = quiet",
+        "0 bits c0 = noted yes"]),
 }
 
 WRONG: dict[str, tuple[str, int, str]] = {  # name: example, how many entries of it came before, the wrong entry
@@ -558,6 +580,20 @@ WRONG: dict[str, tuple[str, int, str]] = {  # name: example, how many entries of
     "bitfield_late_by_a_refused_late": ("refusals_of_late", 3, "0 bits e0 = refused LateBits"),
     "late_at_another_place_taken": ("refusals_of_late", 6, "0 late 0 1 = quiet"),
     "late_of_no_piece_told_as_such": ("refusals_of_late", 7, "0 late 9 0 = refused NoSuchPiece"),
+    "begun_piece_of_others_for_one_alone": ("alone_begins_its_own", 8, "1 next 0 = request 0 16384 16384"),
+    "block_of_a_piece_of_its_own_for_another": ("alone_begins_its_own", 10, "0 next 0 = request 1 16384 16384"),
+    "idle_though_endgame_shares_its_pieces": ("alone_begins_its_own", 12, "0 next 0 = idle"),
+    "piece_of_its_own_goes_on_elsewhere": ("alone_told_off", 8, "0 next 0 = request 0 16384 16384"),
+    "idle_though_it_was_told_off": ("alone_told_off", 12, "0 next 0 = idle"),
+    "held_piece_of_its_own_goes_on_elsewhere": ("choke_shares_its_pieces", 11, "0 next 0 = request 0 16384 16384"),
+    "idle_though_the_owner_choked_us": ("choke_shares_its_pieces", 13, "0 next 0 = idle"),
+    "goes_on_though_another_brought_a_block": ("another_brings_a_block_of_its_own", 12, "1 next 0 = request 0 16384 16384"),
+    "passed_by_though_two_brought_blocks": ("another_brings_a_block_of_its_own", 13, "0 next 0 = idle"),
+    "alone_outlasts_its_peer": ("alone_goes_with_its_peer", 10, "0 next 0 = request 1 0 16384"),
+    "piece_of_its_own_goes_on_in_order": ("alone_in_order", 9, "0 next 0 = request 0 16384 16384"),
+    "piece_of_another_one_alone": ("two_work_alone", 11, "0 next 0 = request 1 16384 16384"),
+    "alone_of_a_stranger_taken": ("refusals_of_alone", 0, "0 alone yes = quiet"),
+    "bitfield_late_by_an_alone": ("refusals_of_alone", 5, "0 bits c0 = refused LateBits"),
     "late_of_another_peers_block_taken": ("refusals_of_late", 11, "1 late 0 0 = quiet"),
     "late_of_a_released_block_taken": ("refusals_of_late", 15, "0 late 0 0 = quiet"),
 }
@@ -629,6 +665,7 @@ def action(words: list[str], pieces: int) -> str:
         case ["levels", digits]: return f"(Levels ({items(digits)}))"
         case ["inorderfrom", level]: return f"(InOrderFrom {level})"
         case ["reach", level]: return f"(Reach {level})"
+        case ["alone", answer]: return f"(Alone {'true' if answer == 'yes' else 'false'})"
         case ["inorder", answer]: return f"(InOrder {'true' if answer == 'yes' else 'false'})"
         case ["next", word]: return f"(Next {word})"
         case ["block", piece, begin, text]: return f"(Arrived {piece} {begin} {in_bytes(text)})"

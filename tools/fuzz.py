@@ -160,6 +160,7 @@ def line(rng: random.Random) -> str:
         lambda: "inorder " + rng.choice(["yes", "yes", "no", "maybe"]),
         lambda: f"inorderfrom {rng.randrange(10)}", lambda: "inorderfrom " + number(rng),
         lambda: f"reach {rng.choice([0, 3, 4, 5, 6, 7, 7, 8, 255])}", lambda: "reach " + number(rng),
+        lambda: "alone " + rng.choice(["yes", "yes", "no", "maybe"]),
     ]
     return worker + " " + rng.choice(words)()
 

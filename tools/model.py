@@ -87,6 +87,7 @@ class Peer:
     opened: bool = False
     depth: int | None = None
     reach: int = MOST_LEVEL
+    alone: bool = False
     shows: set[int] = field(default_factory=set)
     asked: list[Block] = field(default_factory=list)
     overdue: set[Block] = field(default_factory=set)
@@ -106,6 +107,7 @@ class Peer:
     def renew(self, joined: bool) -> None:
         """The worker's next peer joins, or its peer is gone."""
         self.joined, self.late, self.opened, self.depth, self.reach = joined, False, False, None, MOST_LEVEL
+        self.alone = False
         self.shows = set()
         self.free()
 
@@ -120,6 +122,7 @@ class Model:
         self.blocks = torrent.blocks()
         self.pieces = len(self.blocks)
         self.held: dict[Block, bytes] = {}
+        self.senders: dict[Block, Peer] = {}
         self.had: set[int] = set()
         self.levels = [USUAL_LEVEL] * self.pieces
         self.order_from = MOST_LEVEL + 1
@@ -150,15 +153,34 @@ class Model:
         """How many connected peers show the piece."""
         return sum(peer.joined and piece in peer.shows for peer in self.peers)
 
+    # ---- whose a piece is
+
+    def is_sole(self, peer: Peer, piece: int) -> bool:
+        """Whether nobody else brought a block of the piece, or is expected to."""
+        others = [other for other in self.peers if other is not peer]
+        return not any(
+            self.senders[block] is not peer if block in self.held else any(block in other.asked and block not in other.overdue for other in others)
+            for block in self.blocks[piece]
+        )
+
+    def is_own(self, peer: Peer, piece: int, begun: set[int]) -> bool:
+        """Whether the begun piece is the peer's own: it works alone and lets itself be asked, and nobody else has to do with the piece."""
+        return peer.alone and peer.opened and piece in begun and self.is_sole(peer, piece)
+
+    def takes_part(self, peer: Peer, piece: int, begun: set[int]) -> bool:
+        """Whether the peer may take part in the piece."""
+        return self.is_sole(peer, piece) if peer.alone else not any(self.is_own(other, piece, begun) for other in self.peers)
+
     # ---- what is requested next
 
     def usable(self, peer: Peer, expected: set[Block]) -> list[Block]:
         """The wanted blocks that the peer has, within its reach, which are neither held nor expected of anybody; of those just the highest
-        level. A late block is none for the peers at which it is in flight."""
+        level. A late block is none for the peers at which it is in flight. Neither is one of a piece that the peer may take no part in."""
+        begun = self.begun(expected)
         found = [
             block
             for piece in peer.shows
-            if 0 < self.levels[piece] <= peer.reach
+            if 0 < self.levels[piece] <= peer.reach and self.takes_part(peer, piece, begun)
             for block in self.blocks[piece]
             if block not in self.held and block not in expected and block not in peer.asked
         ]
@@ -347,6 +369,7 @@ class Model:
         if block in self.held:
             return "dropped"
         self.held[block] = data
+        self.senders[block] = peer
         for other in self.peers:
             if block in other.asked:
                 other.give_up([block])
@@ -362,7 +385,7 @@ class Model:
             self.had.add(piece)
             return "had"
         for block in self.blocks[piece]:
-            del self.held[block]
+            del self.held[block], self.senders[block]
         return "failed"
 
     def call_want(self, _peer: Peer, flags: set[int]) -> str:
@@ -410,6 +433,11 @@ class Model:
     def call_inorderfrom(self, _peer: Peer, level: int) -> str:
         self.need(level <= MOST_LEVEL + 1, WRONG_LEVEL)
         self.order_from = level
+        return "quiet"
+
+    def call_alone(self, peer: Peer, alone: bool) -> str:
+        self.need(peer.joined, NOT_JOINED)
+        peer.alone = alone
         return "quiet"
 
     def call_reach(self, peer: Peer, level: int) -> str:
@@ -461,7 +489,7 @@ FORMS: dict[str, list[str]] = {
     "bits": ["flags"], "haves": ["flags"], "want": ["flags"],
     "have": ["32"], "lack": ["32"], "settle": ["32"], "depth": ["32"], "next": ["64"],
     "block": ["32", "32", "bytes"], "release": ["32", "32"], "late": ["32", "32"],
-    "level": ["32", "8"], "levels": ["digits"], "inorder": ["yes"], "inorderfrom": ["8"], "reach": ["8"],
+    "level": ["32", "8"], "levels": ["digits"], "inorder": ["yes"], "inorderfrom": ["8"], "reach": ["8"], "alone": ["yes"],
 }
 
 

@@ -16,7 +16,8 @@ from model import (
     BLOCK_SIZE, MOST_DEPTH, MOST_LEVEL, MOST_OPEN, MOST_TOLD_DEPTH, MOST_WORKERS, Block, Model, NotALine, Rules, Torrent, open_model,
 )  # fmt: skip
 
-PIECE_LENGTHS = [1, 1, 1, 2, 3, BLOCK_SIZE, BLOCK_SIZE + 1, BLOCK_SIZE + 1, 2 * BLOCK_SIZE + 1, 3 * BLOCK_SIZE + 1]
+LONG_PIECES = [BLOCK_SIZE + 1, BLOCK_SIZE + 1, 2 * BLOCK_SIZE + 1, 3 * BLOCK_SIZE + 1]
+PIECE_LENGTHS = [1, 1, 1, 2, 3, BLOCK_SIZE, *LONG_PIECES]
 WORD_EDGES = [2**64 - 1, 2**64 - 2, 2**63, 2**32, 2**32 - 1]
 MOST_STEPS = 90
 
@@ -39,20 +40,22 @@ class Mood(NamedTuple):
     want: int
     order: int
     reach: int
+    alone: int
     stray: int
 
 
 MOODS = [
-    # a download with all calls, one that completes nothing, two in which much is given up, two in which much is late, one of levels,
-    # orders and reaches, and one that is quick
-    Mood(40, 14, 6, 4, 3, 2, 5, 2, 8, 6, 2, 3, 1, 1, 2, 4),
-    Mood(60, 5, 0, 3, 2, 2, 5, 2, 6, 4, 2, 1, 1, 0, 1, 1),
-    Mood(45, 4, 1, 3, 2, 2, 5, 2, 35, 0, 3, 0, 0, 0, 0, 1),
-    Mood(45, 4, 1, 6, 8, 6, 9, 5, 20, 4, 3, 2, 1, 1, 2, 1),
-    Mood(45, 4, 1, 2, 1, 1, 3, 1, 3, 35, 3, 1, 0, 0, 0, 1),
-    Mood(40, 9, 4, 3, 1, 1, 3, 1, 5, 25, 4, 3, 1, 2, 2, 1),
-    Mood(40, 8, 3, 3, 2, 1, 4, 1, 14, 8, 2, 12, 2, 6, 6, 1),
-    Mood(45, 25, 12, 2, 0, 0, 2, 1, 4, 3, 1, 0, 0, 0, 0, 0),
+    # a download with all calls, one that completes nothing, two in which much is given up, two in which much is late, one in which
+    # peers often work alone, one of levels, orders and reaches, and one that is quick
+    Mood(40, 14, 6, 4, 3, 2, 5, 2, 8, 6, 2, 3, 1, 1, 2, 2, 4),
+    Mood(60, 5, 0, 3, 2, 2, 5, 2, 6, 4, 2, 1, 1, 0, 1, 2, 1),
+    Mood(45, 4, 1, 3, 2, 2, 5, 2, 35, 0, 3, 0, 0, 0, 0, 0, 1),
+    Mood(45, 4, 1, 6, 8, 6, 9, 5, 20, 4, 3, 2, 1, 1, 2, 4, 1),
+    Mood(45, 4, 1, 2, 1, 1, 3, 1, 3, 35, 3, 1, 0, 0, 0, 0, 1),
+    Mood(40, 9, 4, 3, 1, 1, 3, 1, 5, 25, 4, 3, 1, 2, 2, 4, 1),
+    Mood(45, 9, 4, 3, 2, 3, 6, 2, 9, 7, 2, 2, 1, 2, 2, 20, 1),
+    Mood(40, 8, 3, 3, 2, 1, 4, 1, 14, 8, 2, 12, 2, 6, 6, 2, 1),
+    Mood(45, 25, 12, 2, 0, 0, 2, 1, 4, 3, 1, 0, 0, 0, 0, 0, 0),
 ]
 
 
@@ -70,13 +73,14 @@ class Script:
     def __init__(self, rng: random.Random, with_bounds: bool = False, with_open: bool = False) -> None:
         self.rng = rng
         self.mood = rng.choice(MOODS)
-        self.torrent = self.made_torrent()
+        # Whose a piece is matters where it has several blocks.
+        self.torrent = self.made_torrent(LONG_PIECES if self.mood.alone > self.mood.release else PIECE_LENGTHS)
         workers = rng.randrange(1, 6)
         askers = rng.choice([1, 1, 2, 2, 3, 4, MOST_WORKERS]) if with_bounds else MOST_WORKERS
         deepest = rng.choice([1, 2, 8, 64, 500]) if with_bounds else MOST_DEPTH
         depth, at_random = rng.choice([1, 2, 3, 5, 5, 8, 64]), rng.randrange(len(self.torrent.hashes) + 1)
         # Which pieces are rare matters once none begins at random.
-        if (with_open or self.mood.late > self.mood.release) and rng.randrange(2):
+        if (with_open or max(self.mood.late, self.mood.alone) > self.mood.release) and rng.randrange(2):
             at_random = 0
         most_open = rng.choice([0, 1, 1, 1, 2, 2, 3, MOST_OPEN]) if with_open else 0
         rush = rng.choice([0, 1, 1, 2, 2, 3, 4, 16, MOST_TOLD_DEPTH, MOST_TOLD_DEPTH]) if with_open else MOST_TOLD_DEPTH
@@ -96,10 +100,10 @@ class Script:
         """How many calls of Next it makes."""
         return sum(" next " in line[:8] for line in self.lines)
 
-    def made_torrent(self) -> Torrent:
-        """A torrent of 1 to 12 pieces, each of one byte over and over."""
+    def made_torrent(self, lengths: list[int]) -> Torrent:
+        """A torrent of 1 to 12 pieces of one of these lengths, each of one byte over and over."""
         pieces = self.rng.choice([*range(1, 13), 7, 8, 9, 10, 11, 12])
-        length = self.rng.choice(PIECE_LENGTHS)
+        length = self.rng.choice(lengths)
         total = length * (pieces - 1) + self.rng.randrange(1, length + 1)
         sizes = [min(length, total - piece * length) for piece in range(pieces)]
         return Torrent(length, total, tuple(hashlib.sha1(bytes([piece]) * size).digest() for piece, size in enumerate(sizes)))
@@ -154,6 +158,11 @@ class Script:
         return f"{byte:02x}" * block.length
 
     # ---- lines of each kind
+
+    def ask_two(self, worker: int) -> None:
+        """Often asks what is said to the peer next, and then to any other one."""
+        for number in [worker, self.rng.randrange(len(self.model.peers))][:self.rng.randrange(3)]:
+            self.say(number, f"next {self.word()}")
 
     def say_next(self, worker: int) -> None:
         ready = [number for number, peer in enumerate(self.model.peers) if peer.opened]
@@ -216,9 +225,8 @@ class Script:
         for block in some:
             begin = block.begin if self.rng.randrange(20) else self.rng.choice([block.begin + 1, BLOCK_SIZE, 2**32 - 1])
             self.say(worker, f"late {block.piece} {begin}")
-        # Then often what its own peer is asked for, which is no late block of its own, and another peer, which may be given one.
-        for number in [worker, self.rng.randrange(len(peers))][:self.rng.randrange(3)]:
-            self.say(number, f"next {self.word()}")
+        # Its own peer isn't asked for a late block again, and another one may be.
+        self.ask_two(worker)
 
     def say_depth(self, worker: int) -> None:
         self.say(worker, f"depth {self.rng.choice([0, 1, 1, 2, 2, 3, 4, 8, 64, 65, 500])}")
@@ -242,6 +250,11 @@ class Script:
 
     def say_reach(self, worker: int) -> None:
         self.say(worker, f"reach {self.rng.choice([0, 1, 2, 3, 3, 4, 4, 4, 5, 5, 6, 7, 7, 7, 8])}")
+
+    def say_alone(self, worker: int) -> None:
+        self.say(worker, f"alone {self.rng.choice(['yes', 'yes', 'no'])}")
+        # It goes on with pieces of its own alone, and others pass these by.
+        self.ask_two(worker)
 
     def say_stray(self, worker: int) -> None:
         words: list[Callable[[], str]] = [

@@ -6,6 +6,7 @@
     storage, checking, resume   the disk, the threads that hash what is on it, and the file that lets a killed download go on
     hashing                     four pieces at once, where the library is faster at it than hashlib
     content, blame              what is had, with the picker beside it, and who sent what was wrong
+    suspects                    who works alone, since a piece of several peers was wrong
     wire, peer, session         messages as bytes, one connection, and what is said with peers
     uploads, choking, rate      what peers get, who gets it, and how fast it goes
     swarm, addresses            the loop of sockets, and where peers may be found
@@ -14,8 +15,8 @@
     deadlines                   which peers are too slow for a player
     trace, recorder, picture    the drawing of a whole download
 
-Only `swarm`, `serving` and the trackers use sockets, and `parts` opens the one that listens. Only `content`, `session`, `serving` and
-`download` tell the picker something.
+Only `swarm`, `serving` and the trackers use sockets, and `parts` opens the one that listens. Only `content`, `session`, `suspects`, `serving`
+and `download` tell the picker something.
 """
 
 import os

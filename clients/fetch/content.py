@@ -18,10 +18,11 @@ from .storage import Storage, StorageFault
 
 @dataclass(frozen=True)
 class Verdict:
-    """A piece was checked. `liars` are the peers of which it is known now that they sent something wrong for it."""
+    """A piece was checked. `senders` brought its blocks. Of `liars` it is known now that they sent something wrong for it."""
 
     piece: int
     is_had: bool
+    senders: set[Sender] = field(default_factory=set)
     liars: set[Address] = field(default_factory=set)
 
 
@@ -135,16 +136,15 @@ class Content:
     def _settle(self, check: Check) -> Verdict:
         piece = check.piece
         # Who brought the blocks is known until the picker is told that they are wrong.
-        workers = [self.picker.sender(piece, block) for block in range(self.layout.blocks_of(piece))]
+        senders = [self.owners.get(self.picker.sender(piece, block)) for block in range(self.layout.blocks_of(piece))]
         is_had = self.picker.settle(piece, check.digest).kind is Kind.HAD
         self.held.pop(piece, None)
         self.is_saved = False
         if is_had:
             self._note(piece)
-            return Verdict(piece, True, self.blame.cleared(piece, check.blocks))
+            return Verdict(piece, True, set(senders), self.blame.cleared(piece, check.blocks))
         self.failed += 1
-        senders = [self.owners.get(worker) for worker in workers]
-        return Verdict(piece, False, self.blame.failed(piece, senders, check.blocks))
+        return Verdict(piece, False, set(senders), self.blame.failed(piece, senders, check.blocks))
 
     def _note(self, piece: int) -> None:
         """The piece is had: files that are whole get their names."""

@@ -197,6 +197,7 @@ class Download:
             "connections": parts.swarm.connections,
             "lost": parts.swarm.lost,
             "banned": parts.swarm.banned,
+            "alone": parts.session.suspects.told,
             "announces": parts.announcer.announces,
         }
         if parts.metered:

@@ -13,6 +13,7 @@ from .content import Content, Verdict
 from .deadlines import Line
 from .layout import BLOCK
 from .peer import ALL_LEVELS, NO_WORKER, Peer, milliseconds
+from .suspects import Suspects
 from .uploads import Uploads
 from .wire import Message, WireFault, block_of, numbers_of, spell, spell_bitfield
 
@@ -58,6 +59,7 @@ class Session:
     def __init__(self, content: Content, uploads: Uploads, record: Record | None = None) -> None:
         self.content, self.picker, self.layout = content, content.picker, content.layout
         self.uploads, self.record = uploads, record
+        self.suspects = Suspects(self.picker)
         self.peers: dict[int, Peer] = {}  # by worker
         self.asks: dict[tuple[int, int], int] = {}  # of how many peers each block is asked now
         self.figures = Figures()
@@ -89,6 +91,7 @@ class Session:
         """The connection is gone."""
         self._take_back_all(peer)
         del self.peers[peer.worker]
+        self.suspects.forget(peer)
         self.picker.leave(peer.worker)
         peer.worker = NO_WORKER
 
@@ -214,6 +217,7 @@ class Session:
         self.figures.rejects += 1
         self.take_back(peer, (piece, begin))
         self.picker.release(peer.worker, piece, begin)
+        self.suspects.tell_off(peer)  # others may have the block of a piece of its own
         # The picker may offer the same block at once, so the peer is left alone for a moment.
         peer.rests_until, peer.epoch = self.now + REJECT_REST, -1
 
@@ -239,6 +243,8 @@ class Session:
         peer.pace.fill(answer.kind is Kind.PIPE_FULL, self.now)
         if answer.kind is Kind.NOTHING_LEFT:
             self._lose_interest(peer)
+        elif answer.kind is Kind.IDLE and not peer.asked and self.suspects.tell_off(peer):
+            self.ask(peer)  # pieces that others have begun
 
     def _send_request(self, peer: Peer, block: tuple[int, int], answer: Answer) -> None:
         others = self.asks.get(block, 0)
@@ -296,6 +302,7 @@ class Session:
             peer.timeouts += 1
             self._rest(peer)
         self._tell_late(peer)
+        self.suspects.time_out(peer, self.now)
         return peer.timeouts < MOST_TIMEOUTS
 
     def _tell_late(self, peer: Peer) -> None:
@@ -310,6 +317,7 @@ class Session:
             self.picker.late(peer.worker, *block)
         if late:
             peer.by_rate.timed_out()
+            self.suspects.tell_off(peer)
             self._rest(peer)
 
     def _rest(self, peer: Peer) -> None:
@@ -352,6 +360,7 @@ class Session:
         """Settles the pieces that were checked, and tells the peers of those that are had."""
         verdicts = list(self.content.verdicts())
         for verdict in verdicts:
+            self.suspects.heed(verdict, self.peers.values(), self.now)
             if self.record:
                 self.record.checked(verdict.piece, verdict.is_had)
             if verdict.is_had:

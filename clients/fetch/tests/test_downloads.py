@@ -112,6 +112,15 @@ class Liars(Downloading):
         self.assertGreater(int(figures["failed"]), 0)
         self.assertEqual(honest.connections, 1)
 
+    def test_among_five(self) -> None:
+        """Of five seeders the one that lies is banned, and nobody else is let go."""
+        liar = self.seeder(spoils=1 << 30)
+        honest = [self.seeder(delay=0.02) for _ in range(4)]
+        figures = self.fetch(liar, *honest)
+        self.assert_same()
+        self.assertEqual(figures["banned"], "1")
+        self.assertEqual([seeder.connections for seeder in (liar, *honest)], 5 * [1])
+
 
 class Resumed(Downloading):
     """Downloads that were ended in between."""

@@ -7,6 +7,7 @@ from unittest import mock
 
 from piecepick import Picker
 
+from fetch.content import Verdict
 from fetch.peer import ALL_LEVELS, Peer
 from fetch.serving import LOOK, NEAREST, URGENT, Gate, Urgent, levels_before
 
@@ -174,6 +175,20 @@ class Reached(Reading):
             self.leave_reader()
             self.look()
         self.assertEqual([call.args[1:] for call in reach.call_args_list], [(slow.worker, URGENT - 1), (slow.worker, ALL_LEVELS)])
+
+    def test_suspect(self) -> None:
+        """While somebody reads nobody works alone, since a piece of several peers would wait for others."""
+        suspect, since = self.joined(1, None), self.session.suspects.since
+        failed = Verdict(40, False, {suspect.address, None})
+        self.session.suspects.heed(failed, [suspect], 7.0)
+        self.assertEqual(since, {suspect: 7.0})
+        self.read(0)
+        self.assertEqual(since, {suspect: None})
+        self.session.suspects.heed(failed, [suspect], 8.0)
+        self.assertEqual(since, {suspect: None})
+        self.leave_reader()
+        self.session.suspects.heed(failed, [suspect], 9.0)
+        self.assertEqual(since, {suspect: 9.0})
 
     def test_measured(self) -> None:
         """The rate of a peer is that of its full line."""

@@ -396,6 +396,15 @@ class Picker:
         """
         return self._told(LIBRARY.piecepick_reach, _u32(worker), _u32(level))
 
+    def alone(self, worker: int, yes: bool = True) -> Answer:
+        """From now on the peer works alone, or like the others again, as each peer does from when it joins.
+
+        One that works alone begins pieces, and goes on with those that nobody else brought or is expected to bring a block of. Others are asked
+        for none of the blocks of its own pieces until endgame. So the sender of a whole piece is known. Its pieces wait for it: tell it off where
+        it gets slow, and where it is IDLE with nothing in flight.
+        """
+        return self._told(LIBRARY.piecepick_alone, _u32(worker), int(bool(yes)))
+
     def next(self, worker: int, word: int | None = None) -> Answer:
         """What to say to the peer next. Ask until the answer is neither CANCEL nor REQUEST. The word is the randomness."""
         word = _random_bits(64) if word is None else _u64(word)

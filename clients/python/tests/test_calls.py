@@ -339,6 +339,70 @@ class Late(CallCase):
         self.assertGreater(made.epoch, before)
 
 
+class Alone(CallCase):
+    """Two peers, and two pieces of two blocks, which both have. The second peer works alone, and has begun piece 0."""
+
+    def setUp(self) -> None:
+        self.made = Picker.of_parts(PIECE, 2 * PIECE, bytes(40), workers=3)
+        self.addCleanup(self.made.close)
+        for worker in range(2):
+            self.come(worker)
+        self.assertEqual(self.made.alone(1), Answer(Kind.QUIET))
+        self.assert_asked(1, (0, 0))
+
+    def come(self, worker: int) -> None:
+        """A peer that has both pieces joins, and unchokes us."""
+        self.made.join(worker)
+        self.made.bits(worker, b"\xc0")
+        self.made.unchoke(worker)
+
+    def assert_asked(self, worker: int, *blocks: tuple[int, int]) -> None:
+        """The next requests are for these blocks."""
+        for piece, begin in blocks:
+            self.assertEqual(self.made.next(worker, 0), Answer(Kind.REQUEST, piece, begin, BLOCK))
+
+    def test_its_piece_is_asked_of_nobody_else(self) -> None:
+        self.assert_asked(0, (1, 0), (1, BLOCK))
+        self.assertIs(self.made.next(0).kind, Kind.IDLE)
+        before = self.made.epoch
+        self.assertEqual(self.made.alone(1, False), Answer(Kind.QUIET))
+        self.assertGreater(self.made.epoch, before)
+        self.assert_asked(0, (0, BLOCK))
+
+    def test_it_goes_on_with_no_piece_of_others(self) -> None:
+        self.assert_asked(0, (1, 0))
+        self.assert_asked(1, (0, BLOCK))
+        self.assertIs(self.made.next(1).kind, Kind.IDLE)
+        self.made.alone(1, False)
+        self.assert_asked(1, (1, BLOCK))
+
+    def test_endgame(self) -> None:
+        self.assert_asked(0, (1, 0), (1, BLOCK))
+        self.assert_asked(1, (0, BLOCK))
+        self.assert_asked(0, (0, 0))
+        self.assertIs(self.made.rule(0, 0), PickRule.ENDGAME)
+        self.assert_asked(1, (1, 0))
+
+    def test_a_choke_shares_its_piece(self) -> None:
+        self.assertIs(self.made.arrived(1, 0, 0, bytes(BLOCK)).kind, Kind.STORED)
+        self.assert_asked(0, (1, 0), (1, BLOCK))
+        self.assertIs(self.made.next(0).kind, Kind.IDLE)
+        self.made.choke(1)
+        self.assert_asked(0, (0, BLOCK))
+
+    def test_it_goes_with_its_peer(self) -> None:
+        self.made.leave(1)
+        self.assertEqual(self.made.alone(1), refused(Reason.NOT_JOINED))
+        self.come(1)
+        self.assert_asked(1, (0, 0))
+        self.assert_asked(0, (0, BLOCK))
+
+    def test_what_is_refused(self) -> None:
+        for yes in (True, False):
+            self.assertEqual(self.made.alone(2, yes), refused(Reason.NOT_JOINED))
+            self.assert_status(Status.WORKER, self.made.alone, 3, yes)
+
+
 class Endgame(unittest.TestCase):
     """What a second peer is asked for, of twenty pieces of a block each."""
 

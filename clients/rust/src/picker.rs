@@ -147,6 +147,17 @@ impl Picker {
         self.answer(|picker, answer| unsafe { sys::piecepick_reach(picker, worker, level, answer) })
     }
 
+    /// From now on the peer works alone, or like the others again, as each peer does from when it joins.
+    ///
+    /// One that works alone begins pieces, and goes on with those that nobody else brought or is expected to bring a block of. Others are
+    /// asked for none of the blocks of its own pieces until endgame. So the sender of a whole piece is known where a check failed, or a
+    /// fast peer or a web seed has pieces to itself. Its pieces wait for it: tell it off where it gets slow, and where it is
+    /// [`Answer::Idle`] with nothing in flight.
+    pub fn alone(&mut self, worker: u32, yes: bool) -> Result<Answer, Error> {
+        let yes = u32::from(yes);
+        self.answer(|picker, answer| unsafe { sys::piecepick_alone(picker, worker, yes, answer) })
+    }
+
     /// What to say to the peer next: send what it answers while it is [`Answer::Cancel`] or [`Answer::Request`]. The word is the
     /// caller's randomness.
     pub fn next(&mut self, worker: u32, word: u64) -> Result<Answer, Error> {

@@ -129,6 +129,7 @@ extern "C" {
     ) -> piecepick_status;
     pub fn piecepick_depth(picker: *mut piecepick_picker, worker: u32, depth: u32, answer: *mut piecepick_answer) -> piecepick_status;
     pub fn piecepick_reach(picker: *mut piecepick_picker, worker: u32, level: u32, answer: *mut piecepick_answer) -> piecepick_status;
+    pub fn piecepick_alone(picker: *mut piecepick_picker, worker: u32, yes: u32, answer: *mut piecepick_answer) -> piecepick_status;
     pub fn piecepick_next(picker: *mut piecepick_picker, worker: u32, word: u64, answer: *mut piecepick_answer) -> piecepick_status;
     pub fn piecepick_want(
         picker: *mut piecepick_picker,

@@ -327,6 +327,73 @@ fn a_reach_goes_with_its_peer() {
     assert_eq!(picker.next(0, 1).unwrap().kind(), Kind::Request);
 }
 
+/// Two peers, and two pieces of two blocks, which both have. The second peer works alone, and has begun piece 0.
+fn with_alone() -> Picker {
+    let mut picker = Picker::open_parts(PIECE as u32, 2 * PIECE as u64, &[[0; 20]; 2], Options::new().workers(3).random(0)).unwrap();
+    for worker in 0..2 {
+        come_with_both(&mut picker, worker);
+    }
+    assert_eq!(picker.alone(1, true), Ok(Answer::Quiet));
+    assert_eq!(asked_by(&mut picker, 1), (0, 0, PickRule::Rarest));
+    picker
+}
+
+fn come_with_both(picker: &mut Picker, worker: u32) {
+    picker.join(worker).unwrap();
+    picker.bits(worker, &[0b1100_0000]).unwrap();
+    picker.unchoke(worker).unwrap();
+}
+
+#[test]
+fn a_piece_of_a_peer_alone_is_asked_of_nobody_else() {
+    let mut picker = with_alone();
+    assert_eq!(asked_by(&mut picker, 0), (1, 0, PickRule::Rarest));
+    assert_eq!(asked_by(&mut picker, 0), (1, BLOCK, PickRule::Begun));
+    assert_eq!(picker.next(0, 0), Ok(Answer::Idle));
+    let before = picker.epoch();
+    assert_eq!(picker.alone(1, false), Ok(Answer::Quiet));
+    assert!(picker.epoch() > before);
+    assert_eq!(asked_by(&mut picker, 0), (0, BLOCK, PickRule::Begun));
+}
+
+#[test]
+fn a_peer_alone_goes_on_with_no_piece_of_others() {
+    let mut picker = with_alone();
+    assert_eq!(asked_by(&mut picker, 0), (1, 0, PickRule::Rarest));
+    assert_eq!(asked_by(&mut picker, 1), (0, BLOCK, PickRule::Begun));
+    assert_eq!(picker.next(1, 0), Ok(Answer::Idle));
+    // Once each block is requested, endgame shares all pieces.
+    assert_eq!(asked_by(&mut picker, 0), (1, BLOCK, PickRule::Begun));
+    assert_eq!(asked_by(&mut picker, 0), (0, 0, PickRule::Endgame));
+    assert_eq!(asked_by(&mut picker, 1), (1, 0, PickRule::Endgame));
+}
+
+#[test]
+fn a_choke_and_a_leave_share_the_pieces_of_a_peer_alone() {
+    for leaves in [false, true] {
+        let mut picker = with_alone();
+        assert_eq!(picker.arrived(1, 0, 0, &[0; BLOCK]), Ok(Answer::Stored));
+        assert_eq!(asked_by(&mut picker, 0), (1, 0, PickRule::Rarest));
+        assert_eq!(asked_by(&mut picker, 0), (1, BLOCK, PickRule::Begun));
+        assert_eq!(picker.next(0, 0), Ok(Answer::Idle));
+        assert_eq!(if leaves { picker.leave(1) } else { picker.choke(1) }, Ok(Answer::Quiet));
+        assert_eq!(asked_by(&mut picker, 0), (0, BLOCK, PickRule::Begun));
+    }
+}
+
+#[test]
+fn the_next_peer_works_with_the_others() {
+    let mut picker = with_alone();
+    picker.leave(1).unwrap();
+    for yes in [true, false] {
+        assert_eq!(picker.alone(1, yes), Ok(Answer::Refused(Reason::NotJoined)));
+        assert_eq!(picker.alone(3, yes), Err(Error::Worker));
+    }
+    come_with_both(&mut picker, 1);
+    assert_eq!(asked_by(&mut picker, 1), (0, 0, PickRule::Rarest));
+    assert_eq!(asked_by(&mut picker, 0), (0, BLOCK, PickRule::Begun));
+}
+
 #[test]
 fn a_dropped_piece_is_asked_of_another_peer() {
     let mut picker = with_peer(Keeps::Nothing);

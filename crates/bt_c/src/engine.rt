@@ -65,6 +65,7 @@ fn owned(alloc: Global, told: Told<'_>) -> Result<Call, AllocError>
         Told::InOrderFrom(level) => Call::InOrderFrom(level),
         Told::Lack(piece) => Call::Lack(piece),
         Told::Late { piece, begin } => Call::Late { piece, begin },
+        Told::Alone(alone) => Call::Alone(alone),
     };
     Ok(call)
 }

@@ -25,6 +25,9 @@ Lines:
   W reach L                                it is asked for blocks of level L, 0 to 7, and lower ones alone; 7 as it joins
   W release P BEGIN                        it is asked no more for the block of piece P that begins at byte BEGIN
   W late P BEGIN                           that request takes too long: it stays, and other peers may be asked for the block
+  W alone yes | W alone no                 from now on it works alone | like the others, as when it joins; before endgame one
+                                           that works alone is asked only for pieces of which no other peer brought a block, or
+                                           is expected to; once begun, such a piece is asked of no other, unless it chokes us
   W level P L                              piece P has level L, 0 to 7: 0 isn't downloaded, and a higher level comes first
   W levels DIGITS                          each piece has the level of its digit, that of the first piece first
   W inorder yes | W inorder no             pieces of one level come in rising order | the rarest first, as at the start

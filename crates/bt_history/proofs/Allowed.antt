@@ -157,8 +157,8 @@ request_kind s h w b lt kind = ⊎_elim
           × ((asked_of_some s h b ≡ false) ⊎ (rushes s h w ≡ true))
       from_top is =
           let free = unasked_facts s h b (and_parts (unasked s h b) _ (top_usable s h w b is)).0 in
-          let in_time = not-true (overdue h w b) (and_parts (gives h w b.piece) _ (and_parts (wanted s h b.piece) _
-          (and_parts (unasked s h b) _ (top_usable s h w b is)).1).1).1 in
+          let in_time = not-true (overdue h w b) (and_parts (not (overdue h w b)) _ (and_parts (gives h w b.piece) _ (and_parts (wanted s h b.piece) _
+          (and_parts (unasked s h b) _ (top_usable s h w b is)).1).1).1).0 in
           (nobody_asked s h w b lt free.1 in_time, free.0, inl free.1, inl free.1, inl free.1)
 
 next_facts : (s : Setting) (h : History) (w : ℕ) (b : Block) → w < s.workers → Permits s.torrent (next_answer s h w) (Request b) →
@@ -193,6 +193,25 @@ request_next s h e b allowed is =
 
 pub request_facts : (s : Setting) (h : History) (e : Event) (b : Block) → IsAllowed s h e → e.reply ≡ Request b → RequestFacts s h e.worker b
 request_facts s h e b allowed is = next_facts s h e.worker b (worker_below s h e allowed) (request_next s h e b allowed is)
+
+-- what is requested is usable, or it is asked a second time in endgame
+pub usable_or_doubles : (s : Setting) (h : History) (e : Event) (b : Block) → IsAllowed s h e → e.reply ≡ Request b
+    → (usable s h e.worker b ≡ true) ⊎ ((endgame s h ≡ true) × (doubles s h e.worker b ≡ true))
+usable_or_doubles s h e b allowed is =
+    let w = e.worker in
+    let facts = next_request s.torrent _ _ _ _ _ _ _ _ _ _ _ _ _ b
+    (subst (λ (a : Answer). Permits s.torrent a (Request b)) (next_is s h w) (request_next s h e b allowed is)) in
+    ⊎_elim
+    (λ (up : rises s h w b ≡ true). inl (top_usable s h w b (and_parts (tops s h w b) _ up).0))
+    (λ others. ⊎_elim
+    (λ (on : continues s h w b ≡ true). inl (top_usable s h w b (and_parts (tops s h w b) _ on).0))
+    (λ rest. ⊎_elim
+    (λ (first : starts s h w b ≡ true). inl (top_usable s h w b (and_parts (tops s h w b) _ first).0))
+    (λ (both : ((rushes s h w && (endgame s h && some_block s.torrent (doubles s h w))) ≡ true) × (doubles s h w b ≡ true)).
+    inr ((and_parts (endgame s h) _ (and_parts (rushes s h w) _ both.0).1).0, both.1))
+    rest)
+    others)
+    facts.kind
 
 -- ---- checks
 

@@ -14,6 +14,7 @@ use Rattle.bt_history.proofs.Opening.{few_open, leads_all}
 use Rattle.bt_history.proofs.PickRules.{rule_told}
 use Rattle.bt_history.proofs.Reaching.{request_reached}
 use Rattle.bt_history.proofs.Sending.{sender_held}
+use Rattle.bt_history.proofs.Owning.{own_unasked, works_apart}
 
 pub assured : (s : Setting) (h : History) → IsLegal s h → Assures s h
 assured s h legal = record {
@@ -24,6 +25,8 @@ assured s h legal = record {
   rushed = λ e b q allowed is too. second_has_few s h e q b legal allowed is too;
   higher = λ e b allowed is. higher_first s h e b allowed is;
   reached = λ e b allowed is. request_reached s h e b allowed is;
+  apart = λ e b allowed is works inside. works_apart s h e b allowed is works inside;
+  owned = λ e b q allowed is lq other own. own_unasked s h e b q allowed is lq other own;
   ruled = λ e b allowed is. rule_told s h e b legal allowed is;
   opened = λ e b allowed is unordered fresh many. few_open s h e b allowed is unordered many fresh;
   rarest = λ e b allowed is unordered some room c inside fits same.

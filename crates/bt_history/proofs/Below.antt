@@ -1,7 +1,8 @@
 -- Tests and sums over the numbers below a bound.
-use Rattle.std.proofs.Common.{◌≡◌, ◌≢◌, ◌≤◌, ℕ, zero, suc, ◌+◌, ◌<◌, Bool, true, false, ◌&&◌, ◌||◌, refl, ap, sym, ◌∙◌, arith, ⊎_elim, subst}
+use Rattle.std.proofs.Common.{◌≡◌, ◌≢◌, ◌≤◌, ℕ, zero, suc, ◌+◌, ◌<◌, Bool, true, false, not, ◌&&◌, ◌||◌, ◌==◌, refl, ap, sym, ◌∙◌, arith, ⊎_elim, subst}
+use Rattle.std.proofs.lemmas.Bool.{eq-eqb, false_from_ne_true, le-leb, leb-true, ne_eqb}
 use Rattle.std.proofs.lemmas.Bool.{or_cases, or_from, or_left, or_right, or_parts, and_from, and_parts, cases_eq, cases_lt, cases_Bool, false≢true}
-use Rattle.std.specs.Prelude.{if◌then◌else◌}
+use Rattle.std.specs.Prelude.{if◌then◌else◌, nat_le}
 use Rattle.bt_history.specs.Counting.{any_below, all_below, count_below, sum_below}
 
 -- one that passes shows that some does
@@ -187,6 +188,70 @@ count_none (suc n) f h =
     let step = count_none n f (λ k lk. h k (omega arith)) in
     let last : one_if (f n) ≡ 0 = ap one_if (h n (omega arith)) in
     omega arith
+
+both_counted : (n : ℕ) (f : ℕ → Bool) → count_below n f + count_below n (λ j. not (f j)) ≡ n
+both_counted zero f = refl
+both_counted (suc n) f = by_last (f n) (both_counted n f) where
+  by_last : (x : Bool) → count_below n f + count_below n (λ j. not (f j)) ≡ n
+      → count_below n f + (if x then 1 else 0) + (count_below n (λ j. not (f j)) + (if not x then 1 else 0)) ≡ suc n
+  by_last true rest = omega (arith, rest)
+  by_last false rest = omega (arith, rest)
+
+pub none_counted : (n : ℕ) (f : ℕ → Bool) → count_below n f ≡ 0 → (k : ℕ) → k < n → f k ≡ false
+none_counted n f none k lk = by_value (f k) refl where
+  by_value : (x : Bool) → f k ≡ x → x ≡ false
+  by_value false is = refl
+  by_value true is = absurd (let short = count_short n (λ j. not (f j)) k lk (ap not is) in
+      let whole = both_counted n f in omega (arith, short, none, whole))
+
+-- where just one number passes a test, no other does
+pub one_alone : (n : ℕ) (test : ℕ → Bool) (w q : ℕ) → w < n → q < n → q ≢ w → test w ≡ true → count_below n test ≡ 1 → test q ≡ false
+one_alone n test w q lw lq apart here one = by_test (test q) refl where
+  without : ℕ → Bool
+  without k = if k == w then false else test k
+
+  by_test : (x : Bool) → test q ≡ x → x ≡ false
+  by_test false is = refl
+  by_test true is =
+      let at = count_at n test without w lw (λ k lk other. sym (ap (λ (x : Bool). if x then false else test k) (ne_eqb k w other))) in
+      let zero_w : without w ≡ false = ap (λ (x : Bool). if x then false else test w) (eq-eqb w w refl) in
+      let one_q : without q ≡ true = ap (λ (x : Bool). if x then false else test q) (ne_eqb q w apart) ∙ is in
+      absurd (false≢true (sym (none_counted n without (omega (arith, at, one, ap one_if here, ap one_if zero_w)) q lq) ∙ one_q))
+
+-- no number but i passes a test where no more pass than that one
+pub few_others : (n : ℕ) (f : ℕ → Bool) (i : ℕ) → i < n → nat_le (count_below n f) (one_if (f i)) ≡ all_below n (λ k. not (f k) || (k == i))
+few_others n f i li = by_all (all_below n (λ k. not (f k) || (k == i))) refl where
+  others : ℕ → Bool
+  others k = if k == i then false else f k
+
+  counted : count_below n f ≡ count_below n others + one_if (f i)
+  counted =
+      let at = count_at n f others i li (λ k lk apart. sym (ap (λ (x : Bool). if x then false else f k) (ne_eqb k i apart))) in
+      let here = ap one_if (ap (λ (x : Bool). if x then false else f i) (eq-eqb i i refl)) in
+      omega (arith, at, here)
+
+  by_test : (k : ℕ) (x y : Bool) → (k == i) ≡ x → f k ≡ y → (not y || x) ≡ true → others k ≡ false
+  by_test k true y same is fits = ap (λ (z : Bool). if z then false else f k) same
+  by_test k false false apart is fits = ap (λ (z : Bool). if z then false else f k) apart ∙ is
+  by_test k false true apart is fits = absurd (false≢true fits)
+
+  by_other : (k : ℕ) (x y : Bool) → (k == i) ≡ x → f k ≡ y → others k ≡ false → (not y || x) ≡ true
+  by_other k x false same is none = refl
+  by_other k true true same is none = refl
+  by_other k false true apart is none = absurd (false≢true
+      (sym none ∙ (ap (λ (z : Bool). if z then false else f k) apart ∙ is)))
+
+  by_all : (x : Bool) → all_below n (λ k. not (f k) || (k == i)) ≡ x → nat_le (count_below n f) (one_if (f i)) ≡ x
+  by_all true each =
+      let none = count_none n others (λ k lk. by_test k (k == i) (f k) refl refl (all_at n (λ j. not (f j) || (j == i)) k each lk)) in
+      let whole = counted in
+      le-leb (count_below n f) (one_if (f i)) (omega (arith, none, whole))
+  by_all false some = false_from_ne_true (nat_le (count_below n f) (one_if (f i))) (λ few.
+      let le = leb-true (count_below n f) (one_if (f i)) few in
+      let whole = counted in
+      let none : count_below n others ≡ 0 = omega (arith, le, whole) in
+      false≢true (sym some ∙ all_found n (λ j. not (f j) || (j == i)) (λ k lk.
+      by_other k (k == i) (f k) refl refl (none_counted n others none k lk))))
 
 pub sum_same : (n : ℕ) (f g : ℕ → ℕ) → ((k : ℕ) → k < n → f k ≡ g k) → sum_below n f ≡ sum_below n g
 sum_same zero f g h = refl

@@ -17,6 +17,8 @@ use Rattle.bt_history.specs.Peers.{overdue, reach, shows, told_depth}
 use Rattle.bt_history.specs.Pieces.{asker_count, availability, awaited, begun, endgame, had, had_count, held, held_or_asked, interesting}
 use Rattle.bt_history.specs.Pieces.{is_open_piece, kept, level, offers, order_from, unbegun, wanted}
 use Rattle.bt_history.proofs.TakingBack.{Stays, asked_delayed, asked_released, overdue_delayed, overdue_released, shows_on, stays}
+use Rattle.bt_history.specs.Peers.{alone}
+use Rattle.bt_history.specs.Pieces.{is_free_for, is_own, is_peer, is_sole, sender}
 
 module _ (h : History) (w p begin q : ℕ) where
   -- what both leave of the peer
@@ -72,10 +74,6 @@ module _ (s : Setting) (h : History) (w p begin q : ℕ) (apart : (w == q) ≡ f
   due_same : (b : Block) → due one q b ≡ due two q b
   unfolding due
   due_same b = (kept_by_late h w p begin q).due b ∙ sym ((kept_by_release h w p begin q).due b)
-
-  open_same : is_open one q ≡ is_open two q
-  unfolding is_open
-  open_same = (kept_by_late h w p begin q).opened ∙ sym (kept_by_release h w p begin q).opened
 
   reach_same : reach one q ≡ reach two q
   unfolding reach
@@ -135,9 +133,33 @@ module _ (s : Setting) (h : History) (w p begin q : ℕ) (apart : (w == q) ≡ f
   offers_same r = λ i. shows_alike h w p begin q r i && not (some_block_of s.torrent r (λ b. overdue_same b i)
       && each_block_of s.torrent r (λ b. touched_same b i || overdue_same b i))
 
+  -- whose a piece is, of whichever peer
+  alone_alike : (r : ℕ) → alone one r ≡ alone two r
+  unfolding alone
+  alone_alike r = (stays h r (w == r) (Late p begin) refl).alone ∙ sym (stays h r (w == r) (Release p begin) refl).alone
+
+  open_alike : (r : ℕ) → is_open one r ≡ is_open two r
+  unfolding is_open
+  open_alike r = (stays h r (w == r) (Late p begin) refl).opened ∙ sym (stays h r (w == r) (Release p begin) refl).opened
+
+  sender_same : (b : Block) → sender one b ≡ sender two b
+  unfolding sender
+  sender_same b = refl
+
+  sole_same : (r v : ℕ) → is_sole s one r v ≡ is_sole s two r v
+  sole_same r v = λ i. each_block_of s.torrent v (λ b. if held_same b i then is_peer (sender_same b i) r
+      else all_below s.workers (λ u. not (expected_alike h w p begin u b i) || (u == r)))
+
+  own_same : (r v : ℕ) → is_own s one r v ≡ is_own s two r v
+  own_same r v = λ i. alone_alike r i && (open_alike r i && (begun_same v i && sole_same r v i))
+
+  free_same : (r : ℕ) → is_free_for s one q r ≡ is_free_for s two q r
+  free_same r = λ i. if alone_alike q i then sole_same q r i else not (any_below s.workers (λ v. own_same v r i))
+
   usable_same : (b : Block) → usable s one q b ≡ usable s two q b
   usable_same b = λ i. not (touched_same b i) && (wanted_same b.piece i
-      && ((shows_alike h w p begin q b.piece i && nat_le (level_same b.piece i) (reach_same i)) && not (overdue_same b i)))
+      && ((shows_alike h w p begin q b.piece i && nat_le (level_same b.piece i) (reach_same i))
+      && (not (overdue_same b i) && free_same b.piece i)))
 
   tops_same : (b : Block) → tops s one q b ≡ tops s two q b
   tops_same b = λ i. usable_same b i
@@ -154,7 +176,7 @@ module _ (s : Setting) (h : History) (w p begin q : ℕ) (apart : (w == q) ≡ f
       not (same v i && (level_same v i == level_same r i)) || nat_le (available_same r i) (available_same v i))
 
   resumes_same : (r : ℕ) → resumes s one q r ≡ resumes s two q r
-  resumes_same r = λ i. open_piece_same r i && offers_same r i
+  resumes_same r = λ i. open_piece_same r i && (offers_same r i && free_same r i)
 
   candidate_same : (r : ℕ) → is_candidate s one q r ≡ is_candidate s two q r
   candidate_same r = λ i. wanted_same r i && (offers_same r i && unbegun_same r i)
@@ -193,7 +215,7 @@ module _ (s : Setting) (h : History) (w p begin q : ℕ) (apart : (w == q) ≡ f
   unfolding next_answer
   answer_same = λ i.
       if some_block s.torrent (λ b. due_same b i) then CancelOf (λ b. due_same b i)
-      else if not (open_same i) then Exactly Choked
+      else if not (open_alike q i) then Exactly Choked
       else if nat_le (depth_same i) (count_same i) then Exactly PipeFull
       else if some_block s.torrent (λ b. ordered_same b i) then RequestOf (λ b. rises_same b i)
       else if some_block s.torrent (λ b. continues_same b i) then RequestOf (λ b. continues_same b i)

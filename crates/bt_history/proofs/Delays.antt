@@ -23,6 +23,7 @@ use Rattle.bt_history.specs.Pieces.{unasked, unbegun, wanted}
 use Rattle.bt_history.proofs.Below.{all_at, all_found, any_fails, any_none, any_witness}
 use Rattle.bt_history.proofs.Lines.{asked_at, lasts_at}
 use Rattle.bt_history.proofs.SameBegin.{resized, same_but_len}
+use Rattle.bt_history.specs.Pieces.{is_free_for}
 
 -- a block that a peer is late with is asked of it
 pub overdue_asked : (h : History) (q : ℕ) (b : Block) → overdue h q b ≡ true → asked h q b ≡ true
@@ -167,11 +168,10 @@ module _ (h : History) (never : never_delays h ≡ true) where
 
     pub usable_as_undelayed : (q : ℕ) (b : Block) → usable s h q b ≡ usable_undelayed s h q b
     usable_as_undelayed q b =
-        (λ i. unasked s h b && (wanted s h b.piece && (gives h q b.piece && not (all_in_time h q b never i))))
-        ∙ ap (λ (x : Bool). unasked s h b && (wanted s h b.piece && x)) (and-true (gives h q b.piece))
+        λ i. unasked s h b && (wanted s h b.piece && (gives h q b.piece && (not (all_in_time h q b never i) && is_free_for s h q b.piece)))
 
     pub resumes_as_undelayed : (q p : ℕ) → resumes s h q p ≡ resumes_undelayed s h q p
-    resumes_as_undelayed q p = ap (λ (x : Bool). is_open_piece s h p && x) (offers_undelayed s q p)
+    resumes_as_undelayed q p = ap (λ (x : Bool). is_open_piece s h p && (x && is_free_for s h q p)) (offers_undelayed s q p)
 
     pub candidate_as_undelayed : (q p : ℕ) → is_candidate s h q p ≡ is_candidate_undelayed s h q p
     candidate_as_undelayed q p = ap (λ (x : Bool). wanted s h p && (x && unbegun s h p)) (offers_undelayed s q p)

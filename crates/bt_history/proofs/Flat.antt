@@ -12,13 +12,14 @@ use Rattle.bt_history.specs.declared.rules.TheConstants.{MOST_LEVEL, USUAL_LEVEL
 use Rattle.bt_history.specs.Setting.{Setting, some_block, some_block_of, each_block_of}
 use Rattle.bt_history.specs.History.{History, counts, counted_call}
 use Rattle.bt_history.specs.Peers.{is_open, asked_count, depth_of, due}
-use Rattle.bt_history.specs.Pieces.{unasked, wanted, chosen, level, level_after, level_if, comes_in_order, offers, order_from, order_after}
+use Rattle.bt_history.specs.Pieces.{unasked, wanted, chosen, level, level_after, level_if, comes_in_order, order_from, order_after}
 use Rattle.bt_history.specs.Pieces.{begun, unbegun, availability, endgame, interesting, had_count}
 use Rattle.bt_history.specs.Next.{Exactly, CancelOf, RequestOf, usable, tops, is_candidate, is_strict, none_rarer, resumes, continues, starts, rises}
 use Rattle.bt_history.specs.Next.{doubles, rushes, tops_in_order, next_answer}
 use Rattle.bt_history.specs.Before.{chosen_then, chosen_before, none_rarer_before, continues_before, starts_before, next_before, is_levelling}
 use Rattle.bt_history.specs.Before.{never_levels}
 use Rattle.bt_history.proofs.Below.{all_found, all_same, any_none}
+use Rattle.bt_history.specs.Pieces.{is_open_piece}
 
 -- ---- one level
 
@@ -123,7 +124,7 @@ module _ (s : Setting) (h : History) (q : ℕ) (never : never_levels h ≡ true)
   candidates_flat = rarer_flat (is_candidate s h q) (λ r is. (and_parts (wanted s h r) _ is).0)
 
   resuming_flat : (p : ℕ) → wanted s h p ≡ true → none_rarer s h (resumes s h q) p ≡ none_rarer_before s h (resumes s h q) p
-  resuming_flat = rarer_flat (resumes s h q) (λ r is. (and_parts (wanted s h r) _ (and_parts _ (offers s h q r) is).0).0)
+  resuming_flat = rarer_flat (resumes s h q) (λ r is. (and_parts (wanted s h r) _ (and_parts (is_open_piece s h r) _ is).0).0)
 
   continues_flat : (b : Block) → continues s h q b ≡ continues_before s h q b
   continues_flat b = by_usable (usable s h q b) refl where

@@ -1,37 +1,40 @@
 -- A peer that has nothing to be asked for stays so until the epoch rises.
-use Rattle.std.proofs.Common.{◌≡◌, ◌≢◌, ◌⊎◌, ℕ, zero, suc, ◌==◌, ◌+◌, ◌<◌, ◌≤◌, Bool, true, false, not, ◌&&◌, ◌||◌, List, [], ◌∷◌, ◌++◌, Option, None}
-use Rattle.std.proofs.Common.{Some, refl, ap, sym, ◌∙◌, arith, ⊎_elim, inl, inr}
+use Rattle.std.proofs.Common.{◌≡◌, ◌⊎◌, ℕ, ◌==◌, ◌+◌, ◌<◌, ◌≤◌, Bool, true, false, not, ◌&&◌, ◌||◌, List, [], ◌∷◌, ◌++◌, Option, None}
+use Rattle.std.proofs.Common.{Some, refl, ap, sym, subst, ◌∙◌, arith, ⊎_elim, inl, inr}
 use Rattle.std.specs.Prelude.{if◌then◌else◌, is_none, is_some, nat_lt, nat_le, unwrap_or}
 use Rattle.std.specs.List.{list_any}
 use Rattle.std.proofs.lemmas.Bool.{and_parts, and_from, and_left, and_right, or_parts, or_cases, or_left, or_right, not-true, not-false, eq-eqb}
-use Rattle.std.proofs.lemmas.Bool.{eqb-true, ne_eqb, false≢true, ltb-true, lt-ltb}
+use Rattle.std.proofs.lemmas.Bool.{cases_eq, eqb-true, false_from_ne_true, false≢true, ltb-true, lt-ltb}
 use Rattle.std.proofs.Math.Bool.{and-true}
 use Rattle.bt_meta.specs.declared.block.Block.{Block}
 use Rattle.bt_meta.specs.Layout.{Layout, piece_count, block_count, block}
 use Rattle.bt_history.specs.declared.call.Reply.{Reply}
 use Rattle.bt_history.specs.declared.call.Reply.TheVariants.{Request, Idle, NothingLeft, Refused}
 use Rattle.bt_history.specs.declared.event.Action.{Action}
-use Rattle.bt_history.specs.declared.event.Action.TheVariants.{Join, Choke, Next, Arrived, Settle, Leave, Want, Release, Level, Levels, Lack, Late}
+use Rattle.bt_history.specs.declared.event.Action.TheVariants.{Join, Choke, Next, Arrived, Settle, Leave, Want, Release, Level, Levels, Lack, Late, Alone}
 use Rattle.bt_history.specs.declared.event.Event.{Event}
-use Rattle.bt_history.specs.Counting.{any_below, count_below}
-use Rattle.bt_history.specs.Setting.{Setting, some_block, some_block_of, each_block, each_block_of, count_blocks}
+use Rattle.bt_history.specs.Counting.{all_below, any_below, count_below}
+use Rattle.bt_history.specs.Setting.{Setting, is_block, some_block, some_block_of, each_block, each_block_of, count_blocks}
 use Rattle.bt_history.specs.History.{History, counts, counted_call, own_call, same_begin, stores, stored, bytes_for, requested, requested_by}
 use Rattle.bt_history.specs.History.{cancelled, cancelled_by, failed, passed, is_failed, is_had, settles}
 use Rattle.bt_history.specs.Peers.{asked, asks, asked_count, resets, releases, lasts, shows, shows_after, is_open, is_open_after, told_depth}
-use Rattle.bt_history.specs.Peers.{delays, told_after, depth_of, due, expected, overdue, reach, reach_after}
+use Rattle.bt_history.specs.Peers.{alone, alone_after, delays, told_after, depth_of, due, expected, overdue, reach, reach_after}
 use Rattle.bt_history.specs.Pieces.{kept, held, had, gives, level, level_after, wanted, interesting, asked_of_some, asker_count, held_or_asked}
-use Rattle.bt_history.specs.Pieces.{unasked, awaited, endgame, is_late_at_some}
+use Rattle.bt_history.specs.Pieces.{unasked, awaited, begun, belongs, endgame, is_free_for, is_late_at_some, is_of, is_own, is_peer, is_sole, sender}
 use Rattle.bt_history.specs.Next.{Exactly, usable, tops, tops_in_order, continues, starts, rises, doubles, rushes, next_answer}
 use Rattle.bt_history.specs.Legal.{IsLegal, IsAllowed, place_at}
 use Rattle.bt_history.specs.Logs.{answers, call_mark}
 use Rattle.bt_history.specs.Epochs.{asked_alone, begins_endgame, epoch, is_idle, is_request, pass_by, passes_by, stirs, stores_beyond, unsettles}
-use Rattle.bt_history.proofs.Below.{any_fails, any_found, any_witness, all_at, all_found, count_at, count_short, one_if}
-use Rattle.bt_history.proofs.Allowed.{allowed_answers, top_usable, worker_below}
+use Rattle.bt_history.proofs.Below.{any_fails, any_none, any_found, one_alone, any_witness, all_at, all_found}
+use Rattle.bt_history.proofs.Allowed.{allowed_answers, top_usable, usable_or_doubles, worker_below}
+use Rattle.bt_history.proofs.Arrivals.{stored_unheld}
 use Rattle.bt_history.proofs.Askers.{count_less}
 use Rattle.bt_history.proofs.Endgame.{awaited_on}
 use Rattle.bt_history.proofs.Delays.{expected_at, expected_cases, neither_asked, overdue_at, unasked_in_time}
 use Rattle.bt_history.proofs.HeldLaws.{asking}
+use Rattle.bt_history.proofs.LineLaws.{block_is_block}
 use Rattle.bt_history.proofs.NextCases.{next_cases, next_is}
+use Rattle.bt_history.proofs.Owning.{awaited_touched, doubled_awaited, own_alone, own_facts, usable_part}
 
 -- ---- an entry that doesn't stir
 
@@ -43,6 +46,7 @@ record Calm (s : Setting) (h : History) (e : Event) : Type 0 where
   pub passes_none : (p : ℕ) → passed e p ≡ false
   pub levels_same : (p before : ℕ) → level_after (counted_call e) p before ≡ before
   pub delays_none : (q : ℕ) (b : Block) → delays (own_call q e) b ≡ false
+  pub alone_same : (q : ℕ) (before : Bool) → alone_after (own_call q e) before ≡ before
   pub stores_own : (b : Block) → is_some (stored e b) ≡ true
       → (expected h e.worker b ≡ true) × (asker_count s h b ≡ 1) × (is_late_at_some s h b ≡ false)
   pub begins_none : (b : Block) → e.reply ≡ Request b → (not (endgame s h) && endgame s (e ∷ h)) ≡ false
@@ -64,6 +68,12 @@ calm_delays : (call : Action) (x : Bool) (b : Block) → unsettles call ≡ fals
 calm_delays call false b is = refl
 calm_delays (Late p begin) true b is = absurd (cc is)
 calm_delays call true b is = refl
+
+calm_alone : (call : Action) (x before : Bool) → unsettles call ≡ false → alone_after (if x then Some call else None) before ≡ before
+calm_alone call false before is = refl
+calm_alone (Alone alone) true before is = absurd (cc is)
+calm_alone Join true before is = absurd (cc is)
+calm_alone call true before is = refl
 
 calm_settles : (call : Action) (p : ℕ) → unsettles call ≡ false → settles call p ≡ false
 calm_settles (Settle r bytes) p is = absurd (cc is)
@@ -103,6 +113,7 @@ refused_calm s h e refused = record {
   passes_none = λ p. and_left (is_had e.reply) _ (refused_says e.reply refused).passes;
   levels_same = λ p before. ap (λ (x : Bool). level_after (if x then Some e.action else None) p before) refused;
   delays_none = λ q b. ap (λ (x : Bool). delays (if x && (e.worker == q) then Some e.action else None) b) refused;
+  alone_same = λ q before. ap (λ (x : Bool). alone_after (if x && (e.worker == q) then Some e.action else None) before) refused;
   stores_own = λ b is. absurd
       (false≢true (sym (ap (λ (x : Bool). is_some (if x then bytes_for b e.action else None)) (refused_says e.reply refused).stores_none) ∙ is));
   begins_none = λ b is. absurd (false≢true (sym refused ∙ ap counts is));
@@ -145,6 +156,7 @@ still_calm s h e settled begun_none within = record {
   passes_none = λ p. and_right (is_had e.reply) (settles e.action p) (calm_settles e.action p settled);
   levels_same = λ p before. calm_levels e.action (counts e.reply) p before settled;
   delays_none = λ q b. calm_delays e.action (counts e.reply && (e.worker == q)) b settled;
+  alone_same = λ q before. calm_alone e.action (counts e.reply && (e.worker == q)) before settled;
   stores_own = λ b is. stored_alone s h e b e.action within is;
   begins_none = λ b is. sym (ap (λ (r : Reply). is_request r && (not (endgame s h) && endgame s (e ∷ h))) is) ∙ begun_none;
 }
@@ -174,13 +186,27 @@ each_stronger t f g stronger is =
     all_found (block_count t p) (λ k. g (block t p k)) (λ k lk.
     stronger (block t p k) (all_at (block_count t p) (λ j. f (block t p j)) k (all_at (piece_count t) (λ r. each_block_of t r f) p is lp) lk)))
 
+-- where each block of the torrent that passes a test passes another one that none passes, none passes the first either
+none_stronger_of : (t : Layout) (f g : Block → Bool) → ((b : Block) → is_block t b ≡ true → g b ≡ true → f b ≡ true) → some_block t f ≡ false
+    → some_block t g ≡ false
+none_stronger_of t f g stronger none =
+    any_none (piece_count t) (λ p. some_block_of t p g) (λ p lp. any_none (block_count t p) (λ k. g (block t p k)) (λ k lk.
+    false_from_ne_true (g (block t p k)) (λ is. false≢true
+    (sym (any_fails (block_count t p) (λ j. f (block t p j)) k (any_fails (piece_count t) (λ r. some_block_of t r f) p none lp) lk)
+    ∙ stronger (block t p k) (block_is_block t p k lp lk) is))))
+
 none_stronger : (t : Layout) (f g : Block → Bool) → ((b : Block) → g b ≡ true → f b ≡ true) → some_block t f ≡ false → some_block t g ≡ false
-none_stronger t f g stronger none = by_test (some_block t g) refl where
-  by_test : (x : Bool) → some_block t g ≡ x → x ≡ false
-  by_test false is = refl
-  by_test true is = absurd (false≢true (sym none ∙ some_weaker t g f stronger is))
+none_stronger t f g stronger none = none_stronger_of t f g (λ b inside is. stronger b is) none
 
 -- ---- what an allowed entry that doesn't stir leaves
+
+-- a peer that lets itself be asked does so until it takes that back
+open_unless : (call : Option Action) → resets call ≡ false → is_open_after call true ≡ true
+open_unless None is = refl
+open_unless (Some Choke) is = absurd (cc is)
+open_unless (Some Join) is = absurd (cc is)
+open_unless (Some Leave) is = absurd (cc is)
+open_unless (Some call) is = refl
 
 second : (x y : Bool) → x ≡ false → (x || y) ≡ true → y ≡ true
 second true y fails is = absurd (cc fails)
@@ -278,6 +304,20 @@ module _ (s : Setting) (h : History) (e : Event) (allowed : IsAllowed s h e) (st
         or_right (held (e ∷ h) b) (asked_of_some s (e ∷ h) b)
         (any_found s.workers (λ q. expected (e ∷ h) q b) found.0 found.1 (expected_on found.0 b now found.2))
 
+  -- and from whom
+  sender_on : (b : Block) → held h b ≡ true → sender (e ∷ h) b ≡ sender h b
+  unfolding sender
+  sender_on b is =
+      ap (λ (x : Bool). if x then None else if is_some (stored e b) then Some e.worker else sender h b) (still.fails_none b.piece)
+      ∙ ap (λ (x : Bool). if x then Some e.worker else sender h b)
+      (false_from_ne_true (is_some (stored e b)) (λ some. false≢true (sym (stored_unheld s h e b allowed some) ∙ is)))
+
+  sender_now : (b : Block) → is_some (stored e b) ≡ true → sender (e ∷ h) b ≡ Some e.worker
+  unfolding sender
+  sender_now b some =
+      ap (λ (x : Bool). if x then None else if is_some (stored e b) then Some e.worker else sender h b) (still.fails_none b.piece)
+      ∙ ap (λ (x : Bool). if x then Some e.worker else sender h b) some
+
   -- what is held now and wasn't is stored
   newly_held : (b : Block) → held h b ≡ false → held (e ∷ h) b ≡ true → is_some (stored e b) ≡ true
   unfolding kept
@@ -349,6 +389,79 @@ module _ (s : Setting) (h : History) (e : Event) (allowed : IsAllowed s h e) (st
         (some_weaker s.torrent (λ b. wanted s (e ∷ h) b.piece && not (held (e ∷ h) b)) (λ b. wanted s h b.piece && not (held h b)) lacking_before
         parts.1)
 
+  -- ---- whose a piece is
+
+  begun_on : (p : ℕ) → begun s h p ≡ true → begun s (e ∷ h) p ≡ true
+  begun_on p is =
+      let parts = and_parts (not (had h p)) _ is in
+      let one = any_witness (block_count s.torrent p) (λ k. held_or_asked s h (block s.torrent p k)) parts.1 in
+      and_from (not (had (e ∷ h) p)) _ (ap not (had_same p) ∙ parts.0) (any_found (block_count s.torrent p)
+      (λ k. held_or_asked s (e ∷ h) (block s.torrent p k)) one.0 one.1 (touched_on (block s.torrent p one.0) one.2))
+
+  open_on : (w : ℕ) → is_open h w ≡ true → is_open (e ∷ h) w ≡ true
+  unfolding is_open
+  open_on w is = ap (is_open_after (own_call w e)) is ∙ open_unless (own_call w e) (still.resets_none w)
+
+  -- a block that is one peer's stays so, where none is requested but of that peer
+  of_on : (w : ℕ) (b : Block) → ((r : ℕ) → asks r e b ≡ true → r ≡ w) → is_of s h w b ≡ true → is_of s (e ∷ h) w b ≡ true
+  of_on w b own is = by_held (held h b) (held (e ∷ h) b) refl refl where
+    before : (x : Bool) → held h b ≡ x → (if x then is_peer (sender h b) w else all_below s.workers (λ r. not (expected h r b) || (r == w))) ≡ true
+    before x was = sym (ap (λ (y : Bool). if y then is_peer (sender h b) w else all_below s.workers (λ r. not (expected h r b) || (r == w))) was) ∙ is
+
+    now : (x : Bool) → held (e ∷ h) b ≡ x
+        → (if x then is_peer (sender (e ∷ h) b) w else all_below s.workers (λ r. not (expected (e ∷ h) r b) || (r == w))) ≡ true
+        → is_of s (e ∷ h) w b ≡ true
+    now x holds =
+        λ rest. ap (λ (y : Bool). if y then is_peer (sender (e ∷ h) b) w else all_below s.workers (λ r. not (expected (e ∷ h) r b) || (r == w))) holds
+        ∙ rest
+
+    only : held h b ≡ false → (r : ℕ) → r < s.workers → expected h r b ≡ true → (r == w) ≡ true
+    only was r lr waits = sym (ap (λ (x : Bool). not x || (r == w)) waits)
+        ∙ all_at s.workers (λ v. not (expected h v b) || (v == w)) r (before false was) lr
+
+    by_held : (x y : Bool) → held h b ≡ x → held (e ∷ h) b ≡ y → is_of s (e ∷ h) w b ≡ true
+    by_held true y was holds =
+        now true (held_on b was) (ap (λ (o : Option ℕ). is_peer o w) (sender_on b was) ∙ before true was)
+    by_held false true was holds =
+        let some = newly_held b was holds in
+        now true holds (ap (λ (o : Option ℕ). is_peer o w) (sender_now b some)
+        ∙ only was e.worker (worker_below s h e allowed) (still.stores_own b some).0)
+    by_held false false was holds = now false holds (all_found s.workers (λ r. not (expected (e ∷ h) r b) || (r == w)) (λ r lr.
+        by_expected r lr (expected (e ∷ h) r b) refl)) where
+          by_expected : (r : ℕ) → r < s.workers → (x : Bool) → expected (e ∷ h) r b ≡ x → (not x || (r == w)) ≡ true
+          by_expected r lr false isnt = refl
+          by_expected r lr true waits = ⊎_elim
+              (λ (asked_now : asks r e b ≡ true). eq-eqb r w (own r asked_now))
+              (λ (waited : expected h r b ≡ true). only was r lr waited)
+              (expected_cases h e r b waits)
+
+  -- so a piece that is a peer's own stays that
+  own_on : (w p : ℕ) → ((r : ℕ) (b : Block) → b.piece ≡ p → asks r e b ≡ true → r ≡ w) → is_own s h w p ≡ true → is_own s (e ∷ h) w p ≡ true
+  unfolding alone
+  own_on w p own is =
+      let facts = own_facts s h w p is in
+      and_from (alone (e ∷ h) w) _ (still.alone_same w (alone h w) ∙ facts.works)
+      (and_from (is_open (e ∷ h) w) _ (open_on w facts.opened)
+      (and_from (begun s (e ∷ h) p) (is_sole s (e ∷ h) w p) (begun_on p facts.on)
+      (all_found (block_count s.torrent p) (λ k. is_of s (e ∷ h) w (block s.torrent p k)) (λ k lk.
+      of_on w (block s.torrent p k) (λ r asks_it. own r (block s.torrent p k) refl asks_it)
+      (all_at (block_count s.torrent p) (λ j. is_of s h w (block s.torrent p j)) k facts.sole lk)))))
+
+  -- a block is requested of another peer than the one whose own its piece is only where no block of that piece is unasked
+  asked_of_owner : (w r : ℕ) (b c : Block) → w < s.workers → is_own s h w b.piece ≡ true → b.piece ≡ c.piece → is_block s.torrent c ≡ true
+      → held_or_asked s h c ≡ false → asks r e b ≡ true → r ≡ w
+  asked_of_owner w r b c lw is same inside none asks_it =
+      let named = asking r e b asks_it in
+      let a = named.0 in
+      let at : a.piece ≡ b.piece = eqb-true a.piece b.piece (and_parts (a.piece == b.piece) (a.begin == b.begin) named.2).0 in
+      let reply : e.reply ≡ Request a = named.1.reply in
+      ⊎_elim
+      (λ (fits : usable s h e.worker a ≡ true).
+      sym named.1.worker ∙ own_alone s h w e.worker a.piece lw (subst (λ (p : ℕ). is_own s h w p ≡ true) (sym at) is) (usable_part s h e.worker a fits))
+      (λ (again : (endgame s h ≡ true) × (doubles s h e.worker a ≡ true)). absurd (false≢true (sym none
+      ∙ awaited_touched s h c again.0 (subst (λ (p : ℕ). awaited s h p ≡ true) (at ∙ same) (doubled_awaited s h e a allowed reply again.1)) inside)))
+      (usable_or_doubles s h e a allowed reply)
+
 -- ---- a peer that the entry tells nothing of
 
 -- only Next is answered so
@@ -364,35 +477,6 @@ record Silent (h : History) (e : Event) (q : ℕ) : Type 0 where
   pub asks_none : requested q e ≡ []
   pub cancels_none : (b : Block) → cancelled q e b ≡ false
   pub stores_none : (b : Block) → is_some (stored e b) ≡ true → asked h q b ≡ false
-
-both : (n : ℕ) (f : ℕ → Bool) → count_below n f + count_below n (λ j. not (f j)) ≡ n
-both zero f = refl
-both (suc n) f = by_last (f n) (both n f) where
-  by_last : (x : Bool) → count_below n f + count_below n (λ j. not (f j)) ≡ n
-      → count_below n f + (if x then 1 else 0) + (count_below n (λ j. not (f j)) + (if not x then 1 else 0)) ≡ suc n
-  by_last true rest = omega (arith, rest)
-  by_last false rest = omega (arith, rest)
-
-none_left : (n : ℕ) (f : ℕ → Bool) → count_below n f ≡ 0 → (k : ℕ) → k < n → f k ≡ false
-none_left n f none k lk = by_value (f k) refl where
-  by_value : (x : Bool) → f k ≡ x → x ≡ false
-  by_value false is = refl
-  by_value true is = absurd (let short = count_short n (λ j. not (f j)) k lk (ap not is) in
-      let whole = both n f in omega (arith, short, none, whole))
-
--- where just one number passes a test, no other does
-one_alone : (n : ℕ) (test : ℕ → Bool) (w q : ℕ) → w < n → q < n → q ≢ w → test w ≡ true → count_below n test ≡ 1 → test q ≡ false
-one_alone n test w q lw lq apart here one = by_test (test q) refl where
-  without : ℕ → Bool
-  without k = if k == w then false else test k
-
-  by_test : (x : Bool) → test q ≡ x → x ≡ false
-  by_test false is = refl
-  by_test true is =
-      let at = count_at n test without w lw (λ k lk other. sym (ap (λ (x : Bool). if x then false else test k) (ne_eqb k w other))) in
-      let zero_w : without w ≡ false = ap (λ (x : Bool). if x then false else test w) (eq-eqb w w refl) in
-      let one_q : without q ≡ true = ap (λ (x : Bool). if x then false else test q) (ne_eqb q w apart) ∙ is in
-      absurd (false≢true (sym (none_left n without (omega (arith, at, one, ap one_if here, ap one_if zero_w)) q lq) ∙ one_q))
 
 silent : (s : Setting) (h : History) (e : Event) (q : ℕ) → IsAllowed s h e → Calm s h e → q < s.workers → passes_by q e ≡ true → Silent h e q
 silent s h e q allowed still lq is = ⊎_elim
@@ -537,16 +621,83 @@ module _ (s : Setting) (h : History) (e : Event) (q : ℕ) (allowed : IsAllowed 
   unfolding level reach
   gives_same p = λ i. shows_same p i && nat_le (still.levels_same p (level h p) i) (near_after (own_call q e) quiet.call (reach h q) i)
 
-  usable_before : (b : Block) → usable s (e ∷ h) q b ≡ true → usable s h q b ≡ true
-  usable_before b is =
+  alone_same : alone (e ∷ h) q ≡ alone h q
+  unfolding alone
+  alone_same = still.alone_same q (alone h q)
+
+  -- a block that is its own now was
+  of_before : (b : Block) → is_of s (e ∷ h) q b ≡ true → is_of s h q b ≡ true
+  of_before b is = by_held (held h b) (held (e ∷ h) b) refl refl where
+    now : (x : Bool) → held (e ∷ h) b ≡ x
+        → (if x then is_peer (sender (e ∷ h) b) q else all_below s.workers (λ r. not (expected (e ∷ h) r b) || (r == q))) ≡ true
+    now x holds = sym (ap (λ (y : Bool). if y then is_peer (sender (e ∷ h) b) q
+        else all_below s.workers (λ r. not (expected (e ∷ h) r b) || (r == q))) holds) ∙ is
+
+    before : (x : Bool) → held h b ≡ x → (if x then is_peer (sender h b) q else all_below s.workers (λ r. not (expected h r b) || (r == q))) ≡ true
+        → is_of s h q b ≡ true
+    before x was rest =
+        ap (λ (y : Bool). if y then is_peer (sender h b) q else all_below s.workers (λ r. not (expected h r b) || (r == q))) was ∙ rest
+
+    by_held : (x y : Bool) → held h b ≡ x → held (e ∷ h) b ≡ y → is_of s h q b ≡ true
+    by_held true y was holds = before true was (ap (λ (o : Option ℕ). is_peer o q) (sym (sender_on s h e allowed still b was))
+        ∙ now true (held_on s h e allowed still b was))
+    by_held false true was holds =
+        let some = newly_held s h e allowed still b was holds in
+        let brought = still.stores_own b some in
+        let own : (e.worker == q) ≡ true = sym (ap (λ (o : Option ℕ). is_peer o q) (sender_now s h e allowed still b some)) ∙ now true holds in
+        before false was (all_found s.workers (λ r. not (expected h r b) || (r == q)) (λ r lr.
+        by_worker r lr (cases_eq r e.worker) brought.0 brought.1 own)) where
+          by_worker : (r : ℕ) → r < s.workers → (r ≡ e.worker) ⊎ (r ≡ e.worker → ⊥) → expected h e.worker b ≡ true → asker_count s h b ≡ 1
+              → (e.worker == q) ≡ true → (not (expected h r b) || (r == q)) ≡ true
+          by_worker r lr which waits one own = ⊎_elim
+              (λ (same : r ≡ e.worker). or_right (not (expected h r b)) (r == q) (ap (λ (v : ℕ). v == q) same ∙ own))
+              (λ (other : r ≡ e.worker → ⊥). or_left (not (expected h r b)) (r == q) (ap not
+              (one_alone s.workers (λ v. expected h v b) e.worker r (worker_below s h e allowed) lr other waits one)))
+              which
+    by_held false false was holds = before false was (all_found s.workers (λ r. not (expected h r b) || (r == q)) (λ r lr.
+        by_expected r lr (expected h r b) refl)) where
+          by_expected : (r : ℕ) → r < s.workers → (x : Bool) → expected h r b ≡ x → (not x || (r == q)) ≡ true
+          by_expected r lr false isnt = refl
+          by_expected r lr true waits = sym (ap (λ (x : Bool). not x || (r == q)) (expected_on s h e allowed still r b holds waits))
+              ∙ all_at s.workers (λ v. not (expected (e ∷ h) v b) || (v == q)) r (now false holds) lr
+
+  -- a piece that it may take part in now was one before, if a block of it was unasked
+  free_before : (b : Block) → is_block s.torrent b ≡ true → held_or_asked s h b ≡ false → is_free_for s (e ∷ h) q b.piece ≡ true
+      → is_free_for s h q b.piece ≡ true
+  free_before b inside none is = by_alone (alone h q) refl where
+    p : ℕ
+    p = b.piece
+
+    now : (x : Bool) → alone h q ≡ x → (if x then is_sole s (e ∷ h) q p else not (belongs s (e ∷ h) p)) ≡ true
+    now x was = sym (ap (λ (y : Bool). if y then is_sole s (e ∷ h) q p else not (belongs s (e ∷ h) p)) (alone_same ∙ was)) ∙ is
+
+    before : (x : Bool) → alone h q ≡ x → (if x then is_sole s h q p else not (belongs s h p)) ≡ true → is_free_for s h q p ≡ true
+    before x was rest = ap (λ (y : Bool). if y then is_sole s h q p else not (belongs s h p)) was ∙ rest
+
+    by_alone : (x : Bool) → alone h q ≡ x → is_free_for s h q p ≡ true
+    by_alone true works = before true works (all_found (block_count s.torrent p) (λ k. is_of s h q (block s.torrent p k)) (λ k lk.
+        of_before (block s.torrent p k) (all_at (block_count s.torrent p) (λ j. is_of s (e ∷ h) q (block s.torrent p j)) k (now true works) lk)))
+    by_alone false shares = before false shares (ap not (false_from_ne_true (belongs s h p) (λ owned.
+        let found = any_witness s.workers (λ w. is_own s h w p) owned in
+        false≢true (sym (not-true (belongs s (e ∷ h) p) (now false shares))
+        ∙ any_found s.workers (λ w. is_own s (e ∷ h) w p) found.0 found.1 (own_on s h e allowed still found.0 p
+        (λ r c same asks_it. asked_of_owner s h e allowed still found.0 r c b found.1
+        (subst (λ (v : ℕ). is_own s h found.0 v ≡ true) (sym same) found.2) same inside none asks_it) found.2)))))
+
+  usable_before : (b : Block) → is_block s.torrent b ≡ true → usable s (e ∷ h) q b ≡ true → usable s h q b ≡ true
+  usable_before b inside is =
       let parts = and_parts (unasked s (e ∷ h) b) _ is in
-      and_from (unasked s h b) _
-      (by_touched (held_or_asked s h b) refl (not-true (held_or_asked s (e ∷ h) b) parts.0))
-      (sym (λ i. wanted_same s h e allowed still b.piece i && (gives_same b.piece i && not (overdue_same b i))) ∙ parts.1)
+      let wants = and_parts (wanted s (e ∷ h) b.piece) _ parts.1 in
+      let given = and_parts (gives (e ∷ h) q b.piece) _ wants.1 in
+      let rest = and_parts (not (overdue (e ∷ h) q b)) (is_free_for s (e ∷ h) q b.piece) given.1 in
+      let none = untouched (not-true (held_or_asked s (e ∷ h) b) parts.0) in
+      and_from (unasked s h b) _ (ap not none)
+      (and_from (wanted s h b.piece) _ (sym (wanted_same s h e allowed still b.piece) ∙ wants.0)
+      (and_from (gives h q b.piece) _ (sym (gives_same b.piece) ∙ given.0)
+      (and_from (not (overdue h q b)) (is_free_for s h q b.piece) (ap not (sym (overdue_same b)) ∙ rest.0) (free_before b inside none rest.1))))
     where
-      by_touched : (x : Bool) → held_or_asked s h b ≡ x → held_or_asked s (e ∷ h) b ≡ false → not x ≡ true
-      by_touched true was none = absurd (false≢true (sym none ∙ touched_on s h e allowed still b was))
-      by_touched false was none = refl
+      untouched : held_or_asked s (e ∷ h) b ≡ false → held_or_asked s h b ≡ false
+      untouched none = false_from_ne_true (held_or_asked s h b) (λ was. false≢true (sym none ∙ touched_on s h e allowed still b was))
 
   doubles_before : (b : Block) → doubles s (e ∷ h) q b ≡ true → doubles s h q b ≡ true
   doubles_before b is =
@@ -572,7 +723,7 @@ module _ (s : Setting) (h : History) (e : Event) (q : ℕ) (allowed : IsAllowed 
       let room : nat_le (depth_of s (e ∷ h) q) (asked_count s (e ∷ h) q) ≡ false =
       (λ i. nat_le (depth_same i) (count_blocks s.torrent (λ b. asked_same b i))) ∙ facts.room in
       let first : some_block s.torrent (usable s (e ∷ h) q) ≡ false =
-      none_stronger s.torrent (usable s h q) (usable s (e ∷ h) q) usable_before facts.first in
+      none_stronger_of s.torrent (usable s h q) (usable s (e ∷ h) q) usable_before facts.first in
       let on : some_block s.torrent (continues s (e ∷ h) q) ≡ false =
       none_stronger s.torrent (usable s (e ∷ h) q) (continues s (e ∷ h) q)
       (λ b both. top_usable s (e ∷ h) q b (and_parts (tops s (e ∷ h) q b) _ both).0) first in

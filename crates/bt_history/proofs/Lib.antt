@@ -21,6 +21,7 @@ pub mod Endgame
 pub mod Idling
 pub mod Sending
 pub mod TakingBack
+pub mod Owning
 pub mod Levels
 pub mod Delaying
 pub mod Reaching

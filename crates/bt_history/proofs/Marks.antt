@@ -9,7 +9,7 @@ use Rattle.bt_history.specs.declared.call.Reply.TheVariants.{Joined, Noted, Quie
 use Rattle.bt_history.specs.declared.call.Reply.TheVariants.{Completed, Dropped, Had, Failed, Refused}
 use Rattle.bt_history.specs.declared.mark.CallMark.{CallMark}
 use Rattle.bt_history.specs.declared.mark.CallMark.TheVariants.{Join, Bits, Have, Choke, Unchoke, Next, Arrived, Settle, Leave, Want, Haves, Depth}
-use Rattle.bt_history.specs.declared.mark.CallMark.TheVariants.{Release, Level, Levels, InOrder, Reach, InOrderFrom, Lack, Late}
+use Rattle.bt_history.specs.declared.mark.CallMark.TheVariants.{Release, Level, Levels, InOrder, Reach, InOrderFrom, Lack, Late, Alone}
 use Rattle.bt_history.specs.declared.mark.Mark.{Mark}
 use Rattle.bt_history.specs.contracts.call.ReasonPartialEq.TheImpl as reasons
 use denote.Enum.Bare.{same_true}
@@ -93,6 +93,8 @@ same_call (Late p begin) (Late q start) is =
     let piece = eqb-true p q parts.0 in
     let place = eqb-true begin start parts.1 in
     λ i. Late (piece i) (place i)
+same_call (Alone true) (Alone true) is = refl
+same_call (Alone false) (Alone false) is = refl
 same_call a b is = absurd (false≢true is)
 
 pub same_mark : (a b : Mark) → marks.ghosts.eq a b ≡ true → a ≡ b

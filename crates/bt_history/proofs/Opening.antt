@@ -24,6 +24,7 @@ use Rattle.bt_history.proofs.Levels.{implied, level_tops, none_in_order}
 use Rattle.bt_history.proofs.HeldLaws.{had_full}
 use Rattle.bt_history.proofs.LineLaws.{block_index, block_is_block, some_found}
 use Rattle.bt_history.proofs.NextCases.{next_is, next_request}
+use Rattle.bt_history.specs.Pieces.{is_free_for}
 
 -- ---- with 0 open pieces
 
@@ -83,10 +84,15 @@ module _ (s : Setting) (h : History) (q : ℕ) where
   usable_offered c inside fits =
       let at = block_index s.torrent c inside in
       let parts = and_parts (unasked s h c) _ fits in
-      let given = and_parts (gives h q c.piece) (not (overdue h q c)) (and_parts (wanted s h c.piece) _ parts.1).1 in
+      let given = and_parts (gives h q c.piece) _ (and_parts (wanted s h c.piece) _ parts.1).1 in
       and_from (shows h q c.piece) (not (is_spent s h q c.piece)) (and_parts (shows h q c.piece) _ given.0).0
       (ap not (left_unspent s h q c.piece at.index at.within (ap (unasked s h) (sym at.is) ∙ parts.0)
-      (ap (overdue h q) (sym at.is) ∙ not-true (overdue h q c) given.1)))
+      (ap (overdue h q) (sym at.is) ∙ not-true (overdue h q c) (and_parts (not (overdue h q c)) _ given.1).0)))
+
+  -- a peer may take part in the piece of a block that is usable
+  pub usable_free : (c : Block) → usable s h q c ≡ true → is_free_for s h q c.piece ≡ true
+  usable_free c fits = (and_parts (not (overdue h q c)) _ (and_parts (gives h q c.piece) _ (and_parts (wanted s h c.piece) _
+      (and_parts (unasked s h c) _ fits).1).1).1).1
 
   -- a usable block of a begun piece is of an open piece that the peer offers
   pub usable_resumes : (c : Block) → is_block s.torrent c ≡ true → usable s h q c ≡ true → begun s h c.piece ≡ true → resumes s h q c.piece ≡ true
@@ -94,11 +100,11 @@ module _ (s : Setting) (h : History) (q : ℕ) where
       let at = block_index s.torrent c inside in
       let parts = and_parts (unasked s h c) _ fits in
       let rest = and_parts (wanted s h c.piece) _ parts.1 in
-      and_from (is_open_piece s h c.piece) (offers s h q c.piece)
+      and_from (is_open_piece s h c.piece) _
       (and_from (wanted s h c.piece) _ rest.0 (and_from (begun s h c.piece) _ on
       (any_found (block_count s.torrent c.piece) (λ k. unasked s h (block s.torrent c.piece k)) at.index at.within
       (ap (unasked s h) (sym at.is) ∙ parts.0))))
-      (usable_offered c inside fits)
+      (and_from (offers s h q c.piece) (is_free_for s h q c.piece) (usable_offered c inside fits) (usable_free c fits))
 
   -- where a usable block of a begun piece tops, one of an open piece of its level that fewest peers show goes on
   pub some_continues : (c : Block) → is_block s.torrent c ≡ true → tops s h q c ≡ true → begun s h c.piece ≡ true
@@ -114,15 +120,17 @@ module _ (s : Setting) (h : History) (q : ℕ) where
       let p = found.number in
       let parts = and_parts (resumes s h q p) (level h p == level h c.piece) found.passes in
       let same = eqb-true (level h p) (level h c.piece) parts.1 in
-      let shown = and_parts (is_open_piece s h p) (offers s h q p) parts.0 in
-      let offered = and_parts (shows h q p) (not (is_spent s h q p)) shown.1 in
+      let shown = and_parts (is_open_piece s h p) _ parts.0 in
+      let part = and_parts (offers s h q p) (is_free_for s h q p) shown.1 in
+      let offered = and_parts (shows h q p) (not (is_spent s h q p)) part.0 in
       let wants = and_parts (wanted s h p) _ shown.0 in
       let under_way = and_parts (begun s h p) (some_block_of s.torrent p (unasked s h)) wants.1 in
       let one = left_to_ask s h q p under_way.1 (not-true (is_spent s h q p) offered.1) in
       let d = block s.torrent p one.0 in
       let near : nat_le (level h p) (reach h q) ≡ true = ap (λ (n : ℕ). nat_le n (reach h q)) same ∙ (usable_near c (top_usable s h q c top)) in
       let fits : usable s h q d ≡ true = and_from (unasked s h d) _ one.2 (and_from (wanted s h p) _ wants.0
-      (and_from (gives h q p) (not (overdue h q d)) (and_from (shows h q p) (nat_le (level h p) (reach h q)) offered.0 near) (ap not one.3))) in
+      (and_from (gives h q p) _ (and_from (shows h q p) (nat_le (level h p) (reach h q)) offered.0 near)
+      (and_from (not (overdue h q d)) (is_free_for s h q p) (ap not one.3) part.1))) in
       let none : none_rarer s h (resumes s h q) p ≡ true = rarer_none s h (resumes s h q) p (λ r lr is level_is.
       found.least r lr (and_from (resumes s h q r) _ is (eq-eqb (level h r) (level h c.piece) (level_is ∙ same)))) in
       let before : (is_strict s h || is_rarest s h q p) ≡ true = ⊎_elim

@@ -18,6 +18,7 @@ use Rattle.bt_history.specs.Before.{doubles_unreached, is_reach, never_reaches, 
 use Rattle.bt_history.specs.Legal.{IsAllowed, Permits}
 use Rattle.bt_history.proofs.Allowed.{request_next, top_usable}
 use Rattle.bt_history.proofs.NextCases.{next_is, next_request}
+use Rattle.bt_history.specs.Pieces.{is_free_for}
 
 -- ---- where none is told
 
@@ -43,7 +44,7 @@ gives_full h q p never most =
 
 module _ (s : Setting) (h : History) (q : ℕ) (b : Block) (never : never_reaches h ≡ true) (most : level h b.piece ≤ MOST_LEVEL) where
   pub usable_full : usable s h q b ≡ usable_unreached s h q b
-  usable_full = ap (λ (x : Bool). unasked s h b && (wanted s h b.piece && (x && not (overdue h q b)))) (gives_full h q b.piece never most)
+  usable_full = ap (λ (x : Bool). unasked s h b && (wanted s h b.piece && (x && (not (overdue h q b) && is_free_for s h q b.piece)))) (gives_full h q b.piece never most)
 
   pub doubles_full : doubles s h q b ≡ doubles_unreached s h q b
   doubles_full = ap (λ (x : Bool). wanted s h b.piece && (x

@@ -12,6 +12,7 @@ use Rattle.bt_history.specs.History.{History, same_begin}
 use Rattle.bt_history.specs.Legal.{place_at}
 use Rattle.bt_history.specs.Peers.{asked, delays, due, dues, is_open, is_open_after, joined, joined_after, late, late_after, outstanding, overdue}
 use Rattle.bt_history.specs.Peers.{reach, reach_after, releases, resets, shows, shows_after, told_after, told_depth}
+use Rattle.bt_history.specs.Peers.{alone, alone_after}
 
 pub filter_all : (bs : List Block) → filter (λ b. true) bs ≡ bs
 filter_all [] = refl
@@ -32,12 +33,13 @@ takes_back call = false
 abbrev pub if_own : Bool → Action → Option Action
 if_own x call = if x then Some call else None
 
--- what stays of peer q, its own call or not: its depth and its reach, whether it is in and lets itself be asked, and its cancels
+-- what stays of peer q, its own call or not: its depth and its reach, whether it is in, lets itself be asked and works alone, and its cancels
 pub record Stays (h : History) (q : ℕ) (x : Bool) (call : Action) : Type 0 where
   pub depth : told_after (if_own x call) (told_depth h q) ≡ told_depth h q
   pub reach : reach_after (if_own x call) (reach h q) ≡ reach h q
   pub joined : joined_after (if_own x call) (joined h q) ≡ joined h q
   pub opened : is_open_after (if_own x call) (is_open h q) ≡ is_open h q
+  pub alone : alone_after (if_own x call) (alone h q) ≡ alone h q
   pub due : (b : Block) → (not (resets (if_own x call)) && (not (x && false) && (due h q b || false))) ≡ due h q b
   pub cancels : (if resets (if_own x call) then [] else filter (λ b. not (x && false)) (dues h q)
       ++ (if x then [] else filter (λ b. false) (outstanding h q))) ≡ dues h q
@@ -48,6 +50,7 @@ stays h q false call is = record {
   reach = refl;
   joined = refl;
   opened = refl;
+  alone = refl;
   due = λ b. or-false _;
   cancels = (λ i. filter_all (dues h q) i ++ filter_none (outstanding h q) i) ∙ append-nil _;
 }
@@ -56,6 +59,7 @@ stays h q true (Lack p) is = record {
   reach = refl;
   joined = refl;
   opened = refl;
+  alone = refl;
   due = λ b. or-false _;
   cancels = append-nil _ ∙ filter_all (dues h q);
 }
@@ -64,6 +68,7 @@ stays h q true (Release p begin) is = record {
   reach = refl;
   joined = refl;
   opened = refl;
+  alone = refl;
   due = λ b. or-false _;
   cancels = append-nil _ ∙ filter_all (dues h q);
 }
@@ -72,6 +77,7 @@ stays h q true (Late p begin) is = record {
   reach = refl;
   joined = refl;
   opened = refl;
+  alone = refl;
   due = λ b. or-false _;
   cancels = append-nil _ ∙ filter_all (dues h q);
 }

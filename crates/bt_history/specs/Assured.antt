@@ -1,5 +1,5 @@
 -- What holds after every legal history, as one record: for callers that have a picker and no journal.
-use Rattle.std.specs.Prelude.{◌≡◌, ◌∷◌, ℕ, ◌+◌, ◌<◌, ◌≤◌, IsTrue, false, is_some}
+use Rattle.std.specs.Prelude.{◌≡◌, ◌≢◌, ◌∷◌, ℕ, ◌+◌, ◌<◌, ◌≤◌, IsTrue, false, is_some}
 use Rattle.sha1.specs.Sha1.{sha1}
 use Rattle.bt_meta.specs.declared.block.Block.{Block}
 use Rattle.bt_meta.specs.Layout.{hash_of}
@@ -8,9 +8,9 @@ use Rattle.bt_history.specs.declared.event.Event.{Event}
 use Rattle.bt_history.specs.declared.rules.TheConstants.{MOST_LEVEL}
 use Rattle.bt_history.specs.Setting.{Setting, deepest_line, is_block}
 use Rattle.bt_history.specs.History.{History}
-use Rattle.bt_history.specs.Peers.{asked, asked_count, depth_so_far, due_count, expected, ListsAsked, reach}
+use Rattle.bt_history.specs.Peers.{alone, asked, asked_count, depth_so_far, due_count, expected, ListsAsked, reach}
 use Rattle.bt_history.specs.Pieces.{asker_count, availability, begun, content, full, had, held, level, open_count, sender, unasked, unbegun}
-use Rattle.bt_history.specs.Pieces.{awaited, comes_in_order}
+use Rattle.bt_history.specs.Pieces.{awaited, comes_in_order, is_own, is_sole}
 use Rattle.bt_history.specs.Next.{is_strict, usable}
 use Rattle.bt_history.specs.PickRules.{IsBy, rule_of}
 use Rattle.bt_history.specs.Legal.{IsAllowed}
@@ -33,6 +33,12 @@ pub record Assures (s : Setting) (h : History) : Type 0 where
       → (c : Block) → IsTrue (is_block s.torrent c) → IsTrue (usable s h e.worker c) → level h c.piece ≤ level h b.piece
   -- no block is requested of a peer beyond its reach
   pub reached : (e : Event) (b : Block) → IsAllowed s h e → e.reply ≡ Request b → level h b.piece ≤ reach h e.worker
+  -- a peer that works alone is the first to be asked for a block only of a piece that nobody else has to do with
+  pub apart : (e : Event) (b : Block) → IsAllowed s h e → e.reply ≡ Request b → IsTrue (alone h e.worker) → IsTrue (unasked s h b)
+      → IsTrue (is_sole s h e.worker b.piece)
+  -- and nobody is the first to be asked for a block of a piece that is another peer's own
+  pub owned : (e : Event) (b : Block) (q : ℕ) → IsAllowed s h e → e.reply ≡ Request b → q < s.workers → q ≢ e.worker
+      → IsTrue (is_own s h q b.piece) → unasked s h b ≡ false
   -- a request tells the rule that it is by
   pub ruled : (e : Event) (b : Block) → IsAllowed s h e → e.reply ≡ Request b → IsBy s h e.worker b (rule_of s (e ∷ h) b)
   -- where more pieces are open than may be, none begins while a begun one of its level could go on

@@ -1,6 +1,6 @@
 -- The rules as they were before there were later calls: what the laws compare them with. The later calls release a block, bound its
 -- askers, tell the depth of a peer, add to what it shows and take from it, give pieces levels and an order, bound a peer's reach, let a part of the levels
--- come in order, and tell that a request is late.
+-- come in order, tell that a request is late, and let a peer work alone.
 use Rattle.std.specs.Prelude.{ℕ, Bool, true, false, not, ◌==◌, ◌&&◌, ◌||◌, List, [], ◌∷◌, ◌++◌, Option, Some, is_none, nat_lt, nat_le, if◌then◌else◌}
 use Rattle.std.specs.List.{filter}
 use Rattle.bt_meta.specs.declared.block.Block.{Block}
@@ -8,12 +8,12 @@ use Rattle.bt_meta.specs.Layout.{piece_count}
 use Rattle.bt_history.specs.declared.call.Reply.TheVariants.{Choked, PipeFull, Idle, NothingLeft}
 use Rattle.bt_history.specs.declared.event.Action.{Action}
 use Rattle.bt_history.specs.declared.event.Action.TheVariants.{Join, Bits, Have, Choke, Unchoke, Arrived, Leave, Want, Haves, Depth, Release}
-use Rattle.bt_history.specs.declared.event.Action.TheVariants.{Level, Levels, InOrder, Reach, InOrderFrom, Lack, Late}
+use Rattle.bt_history.specs.declared.event.Action.TheVariants.{Level, Levels, InOrder, Reach, InOrderFrom, Lack, Late, Alone}
 use Rattle.bt_history.specs.Counting.{all_below, any_below, count_below}
 use Rattle.bt_history.specs.Setting.{Setting, some_block, each_block}
 use Rattle.bt_history.specs.History.{History, counted_call, own_call, stored, requested}
 use Rattle.bt_history.specs.Peers.{flag, shows, is_open, asks, asked, asked_count, due, depth_of, overdue, resets}
-use Rattle.bt_history.specs.Pieces.{gives, is_open_piece, asker_count, held, held_or_asked, wanted, begun, unbegun, availability, endgame, interesting, had_count, unasked}
+use Rattle.bt_history.specs.Pieces.{gives, is_free_for, is_open_piece, offers, asker_count, held, held_or_asked, wanted, begun, unbegun, availability, endgame, interesting, had_count, unasked}
 use Rattle.bt_history.specs.Legal.{place_at}
 use Rattle.bt_history.specs.Next.{Answer, Exactly, CancelOf, RequestOf, usable, tops, is_candidate, is_strict, resumes, rises, starts, doubles}
 use Rattle.bt_history.specs.Next.{continues, rushes, tops_in_order}
@@ -199,10 +199,11 @@ unfoldable pub never_reaches : History → Bool
 never_reaches [] = true
 never_reaches (e ∷ h) = not (is_reach e.action) && never_reaches h
 
--- a request of block b to q was of use before there was a reach: the block is unasked, and q shows its piece, which is wanted, and isn't late
--- with it
+-- a request of block b to q was of use before there was a reach: the block is unasked, and q shows its piece, which is wanted, isn't late with
+-- it and may take part
 abbrev pub usable_unreached : Setting → History → ℕ → Block → Bool
-usable_unreached s h q b = unasked s h b && (wanted s h b.piece && (shows h q b.piece && not (overdue h q b)))
+usable_unreached s h q b =
+    unasked s h b && (wanted s h b.piece && (shows h q b.piece && (not (overdue h q b) && is_free_for s h q b.piece)))
 
 -- and of a lacking one in endgame: q shows its piece, which is wanted, and isn't asked for it, nor are as many others as may be
 abbrev pub doubles_unreached : Setting → History → ℕ → Block → Bool
@@ -228,13 +229,13 @@ asked_of_any s h b = any_below s.workers (λ q. asked h q b)
 abbrev pub any_asker_count : Setting → History → Block → ℕ
 any_asker_count s h b = count_below s.workers (λ q. asked h q b)
 
--- a request of block b to q was of use then: the block is unasked, its piece is wanted, and q may be asked for it
+-- a request of block b to q was of use then: the block is unasked, its piece is wanted, and q may be asked for it and may take part
 abbrev pub usable_undelayed : Setting → History → ℕ → Block → Bool
-usable_undelayed s h q b = unasked s h b && (wanted s h b.piece && gives h q b.piece)
+usable_undelayed s h q b = unasked s h b && (wanted s h b.piece && (gives h q b.piece && is_free_for s h q b.piece))
 
--- an open piece that q shows
+-- an open piece that q shows and may take part in
 abbrev pub resumes_undelayed : Setting → History → ℕ → ℕ → Bool
-resumes_undelayed s h q p = is_open_piece s h p && shows h q p
+resumes_undelayed s h q p = is_open_piece s h p && (shows h q p && is_free_for s h q p)
 
 -- a wanted unbegun piece that q shows
 abbrev pub is_candidate_undelayed : Setting → History → ℕ → ℕ → Bool
@@ -243,6 +244,25 @@ is_candidate_undelayed s h q p = wanted s h p && (shows h q p && unbegun s h p)
 -- the block that begins there was asked of w, and of nobody else
 abbrev pub asked_alone_undelayed : Setting → History → ℕ → ℕ → ℕ → Bool
 asked_alone_undelayed s h w p begin = asked h w (place_at p begin) && (any_asker_count s h (place_at p begin) == 1)
+
+-- the call tells whether a peer works alone
+abbrev pub tells_alone : Action → Bool
+tells_alone (Alone alone) = true
+tells_alone call = false
+
+-- no entry tells it
+unfoldable pub never_alone : History → Bool
+never_alone [] = true
+never_alone (e ∷ h) = not (tells_alone e.action) && never_alone h
+
+-- a request of block b to q was of use before a peer could work alone: the block is unasked, its piece is wanted, and q may be asked for it and
+-- isn't late with it
+abbrev pub usable_unowned : Setting → History → ℕ → Block → Bool
+usable_unowned s h q b = unasked s h b && (wanted s h b.piece && (gives h q b.piece && not (overdue h q b)))
+
+-- an open piece that q offers
+abbrev pub resumes_unowned : Setting → History → ℕ → ℕ → Bool
+resumes_unowned s h q p = is_open_piece s h p && offers s h q p
 
 -- the call tells from which level on pieces come in order
 abbrev pub is_window : Action → Bool

@@ -7,7 +7,7 @@ use Rattle.bt_history.specs.declared.call.Entry.{Entry}
 use Rattle.bt_history.specs.declared.call.Reply.{Reply}
 use Rattle.bt_history.specs.declared.event.Action.{Action}
 use Rattle.bt_history.specs.declared.event.Action.TheVariants.{Join, Bits, Have, Choke, Unchoke, Next, Arrived, Settle, Leave, Want, Haves, Depth}
-use Rattle.bt_history.specs.declared.event.Action.TheVariants.{Release, Level, Levels, InOrder, Reach, InOrderFrom, Lack, Late}
+use Rattle.bt_history.specs.declared.event.Action.TheVariants.{Release, Level, Levels, InOrder, Reach, InOrderFrom, Lack, Late, Alone}
 use Rattle.bt_history.specs.declared.event.Event.{Event}
 use Rattle.bt_history.specs.History.{History}
 
@@ -33,6 +33,7 @@ action_of (calls.Reach n) = Reach n
 action_of (calls.InOrderFrom n) = InOrderFrom n
 action_of (calls.Lack p) = Lack p
 action_of (calls.Late p begin) = Late p begin
+action_of (calls.Alone alone) = Alone alone
 
 -- the entry that this worker's call with this reply makes
 abbrev pub event : ℕ → Call → Reply → Event

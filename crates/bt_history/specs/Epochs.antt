@@ -3,7 +3,7 @@ use Rattle.std.specs.Prelude.{ℕ, ◌+◌, ◌==◌, Bool, true, false, not, �
 use Rattle.bt_history.specs.declared.call.Reply.{Reply}
 use Rattle.bt_history.specs.declared.call.Reply.TheVariants.{Request, Idle, NothingLeft}
 use Rattle.bt_history.specs.declared.event.Action.{Action}
-use Rattle.bt_history.specs.declared.event.Action.TheVariants.{Join, Choke, Arrived, Settle, Leave, Want, Release, Level, Levels, Lack, Late}
+use Rattle.bt_history.specs.declared.event.Action.TheVariants.{Join, Choke, Arrived, Settle, Leave, Want, Release, Level, Levels, Lack, Late, Alone}
 use Rattle.bt_history.specs.declared.event.Event.{Event}
 use Rattle.bt_history.specs.Setting.{Setting}
 use Rattle.bt_history.specs.History.{History, counts, stores}
@@ -26,7 +26,7 @@ asked_alone s h w p begin =
     expected h w (place_at p begin)
     && ((asker_count s h (place_at p begin) == 1) && not (is_late_at_some s h (place_at p begin)))
 
--- the call frees blocks, changes what is wanted, or settles a piece
+-- the call frees blocks or pieces, changes what is wanted, or settles a piece
 abbrev pub unsettles : Action → Bool
 unsettles Join = true
 unsettles Choke = true
@@ -38,6 +38,7 @@ unsettles (Levels levels) = true
 unsettles (Settle p bytes) = true
 unsettles (Lack p) = true
 unsettles (Late p begin) = true
+unsettles (Alone alone) = true
 unsettles call = false
 
 -- the call stores a block that its own peer wasn't asked for, or not alone

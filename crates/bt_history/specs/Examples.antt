@@ -9,7 +9,7 @@ use Rattle.bt_history.specs.declared.call.Reply.TheVariants.{Joined, Noted, Quie
 use Rattle.bt_history.specs.declared.call.Reply.TheVariants.{Completed, Dropped, Had, Failed, Refused}
 use Rattle.bt_history.specs.declared.event.Action.{Action}
 use Rattle.bt_history.specs.declared.event.Action.TheVariants.{Join, Bits, Have, Choke, Unchoke, Next, Arrived, Settle, Leave, Want, Haves, Depth}
-use Rattle.bt_history.specs.declared.event.Action.TheVariants.{Release, Level, Levels, InOrder, Reach, InOrderFrom, Lack, Late}
+use Rattle.bt_history.specs.declared.event.Action.TheVariants.{Release, Level, Levels, InOrder, Reach, InOrderFrom, Lack, Late, Alone}
 use Rattle.bt_history.specs.declared.event.Event.{Event}
 use Rattle.bt_history.specs.declared.rules.Rules.{Rules}
 use Rattle.bt_history.specs.Setting.{Setting, setting_of, usual_rules}
@@ -1634,6 +1634,126 @@ refusals_of_late = example (setting_of torrent_short_last 2 usual_rules)
     ∷ (11, entry 1 (Late 0 0) Quiet)
     ∷ (15, entry 0 (Late 0 0) Quiet) ∷ [])
 
+-- 8: begun piece of others for one alone
+-- 10: block of a piece of its own for another
+-- 12: idle though endgame shares its pieces
+abbrev alone_begins_its_own : Example
+alone_begins_its_own = example (setting_of torrent_two_blocks 2 usual_rules)
+    (enters 0 (true ∷ true ∷ [])
+    (enters 1 (true ∷ true ∷ [])
+    (entry 0 (Next 0) (Request (block_of 0 0 16384))
+    ∷ entry 1 (Alone true) Quiet
+    ∷ entry 1 (Next 0) (Request (block_of 1 0 16384))
+    ∷ entry 0 (Next 0) (Request (block_of 0 16384 16384))
+    ∷ entry 0 (Next 0) Idle
+    ∷ entry 1 (Next 0) (Request (block_of 1 16384 16384))
+    ∷ entry 0 (Next 0) (Request (block_of 1 0 16384)) ∷ [])))
+    ((8, entry 1 (Next 0) (Request (block_of 0 16384 16384)))
+    ∷ (10, entry 0 (Next 0) (Request (block_of 1 16384 16384)))
+    ∷ (12, entry 0 (Next 0) Idle) ∷ [])
+
+-- 8: piece of its own goes on elsewhere
+-- 12: idle though it was told off
+abbrev alone_told_off : Example
+alone_told_off = example (setting_of torrent_two_blocks 2 usual_rules)
+    (enters 0 (true ∷ true ∷ [])
+    (enters 1 (true ∷ true ∷ [])
+    (entry 1 (Alone true) Quiet
+    ∷ entry 1 (Next 0) (Request (block_of 0 0 16384))
+    ∷ entry 0 (Next 0) (Request (block_of 1 0 16384))
+    ∷ entry 0 (Next 0) (Request (block_of 1 16384 16384))
+    ∷ entry 0 (Next 0) Idle
+    ∷ entry 1 (Alone false) Quiet
+    ∷ entry 0 (Next 0) (Request (block_of 0 16384 16384)) ∷ [])))
+    ((8, entry 0 (Next 0) (Request (block_of 0 16384 16384)))
+    ∷ (12, entry 0 (Next 0) Idle) ∷ [])
+
+-- 11: held piece of its own goes on elsewhere
+-- 13: idle though the owner choked us
+abbrev choke_shares_its_pieces : Example
+choke_shares_its_pieces = example (setting_of torrent_two_blocks 2 usual_rules)
+    (enters 0 (true ∷ true ∷ [])
+    (enters 1 (true ∷ true ∷ [])
+    (entry 1 (Alone true) Quiet
+    ∷ entry 1 (Next 0) (Request (block_of 0 0 16384))
+    ∷ entry 1 (Arrived 0 0 (replicate 16384 97)) Stored
+    ∷ entry 0 (Next 0) (Request (block_of 1 0 16384))
+    ∷ entry 0 (Next 0) (Request (block_of 1 16384 16384))
+    ∷ entry 0 (Next 0) Idle
+    ∷ entry 1 Choke Quiet
+    ∷ entry 0 (Next 0) (Request (block_of 0 16384 16384)) ∷ [])))
+    ((11, entry 0 (Next 0) (Request (block_of 0 16384 16384)))
+    ∷ (13, entry 0 (Next 0) Idle) ∷ [])
+
+-- 12: goes on though another brought a block
+-- 13: passed by though two brought blocks
+abbrev another_brings_a_block_of_its_own : Example
+another_brings_a_block_of_its_own = example (setting_of torrent_two_blocks 2 usual_rules)
+    (enters 0 (true ∷ true ∷ [])
+    (enters 1 (true ∷ true ∷ [])
+    (entry 0 (Next 0) (Request (block_of 0 0 16384))
+    ∷ entry 0 (Release 0 0) Quiet
+    ∷ entry 1 (Alone true) Quiet
+    ∷ entry 1 (Next 0) (Request (block_of 0 0 16384))
+    ∷ entry 0 (Arrived 0 0 (replicate 16384 97)) Stored
+    ∷ entry 1 (Next 0) (Cancel (block_of 0 0 16384))
+    ∷ entry 1 (Next 0) (Request (block_of 1 0 16384))
+    ∷ entry 0 (Next 0) (Request (block_of 0 16384 16384)) ∷ [])))
+    ((12, entry 1 (Next 0) (Request (block_of 0 16384 16384)))
+    ∷ (13, entry 0 (Next 0) Idle) ∷ [])
+
+-- 10: alone outlasts its peer
+abbrev alone_goes_with_its_peer : Example
+alone_goes_with_its_peer = example (setting_of torrent_two_blocks 2 usual_rules)
+    (entry 0 Join Joined
+    ∷ entry 0 (Alone true) Quiet
+    ∷ entry 0 Leave Quiet
+    ∷ enters 0 (true ∷ true ∷ [])
+    (enters 1 (true ∷ true ∷ [])
+    (entry 1 (Next 0) (Request (block_of 0 0 16384))
+    ∷ entry 0 (Next 0) (Request (block_of 0 16384 16384)) ∷ [])))
+    ((10, entry 0 (Next 0) (Request (block_of 1 0 16384))) ∷ [])
+
+-- 9: piece of its own goes on in order
+abbrev alone_in_order : Example
+alone_in_order = example (setting_of torrent_two_blocks 2 usual_rules)
+    (entry 0 (InOrder true) Quiet
+    ∷ enters 0 (true ∷ true ∷ [])
+    (enters 1 (true ∷ true ∷ [])
+    (entry 1 (Alone true) Quiet
+    ∷ entry 1 (Next 0) (Request (block_of 0 0 16384))
+    ∷ entry 0 (Next 0) (Request (block_of 1 0 16384))
+    ∷ entry 1 (Next 0) (Request (block_of 0 16384 16384)) ∷ [])))
+    ((9, entry 0 (Next 0) (Request (block_of 0 16384 16384))) ∷ [])
+
+-- 11: piece of another one alone
+abbrev two_work_alone : Example
+two_work_alone = example (setting_of torrent_two_blocks 2 usual_rules)
+    (enters 0 (true ∷ true ∷ [])
+    (enters 1 (true ∷ true ∷ [])
+    (entry 0 (Alone true) Quiet
+    ∷ entry 1 (Alone true) Quiet
+    ∷ entry 0 (Next 0) (Request (block_of 0 0 16384))
+    ∷ entry 1 (Next 0) (Request (block_of 1 0 16384))
+    ∷ entry 0 (Next 0) (Request (block_of 0 16384 16384))
+    ∷ entry 0 (Next 0) Idle
+    ∷ entry 1 (Next 0) (Request (block_of 1 16384 16384))
+    ∷ entry 0 (Next 0) (Request (block_of 1 0 16384)) ∷ [])))
+    ((11, entry 0 (Next 0) (Request (block_of 1 16384 16384))) ∷ [])
+
+-- 0: alone of a stranger taken
+-- 5: bitfield late by an alone
+abbrev refusals_of_alone : Example
+refusals_of_alone = example (setting_of torrent_two_blocks 1 usual_rules)
+    (entry 0 (Alone true) (Refused NotJoined)
+    ∷ entry 0 Join Joined
+    ∷ entry 0 (Alone true) Quiet
+    ∷ entry 0 (Alone true) Quiet
+    ∷ entry 0 (Alone false) Quiet
+    ∷ entry 0 (Bits (true ∷ true ∷ [])) (Noted true) ∷ [])
+    ((0, entry 0 (Alone true) Quiet)
+    ∷ (5, entry 0 (Bits (true ∷ true ∷ [])) (Refused LateBits)) ∷ [])
+
 abbrev pub first_examples : List Example
 first_examples =
     first_request
@@ -1666,13 +1786,13 @@ first_examples =
     ∷ endgame_of_the_wanted
     ∷ want_before_the_bits
     ∷ asked_stays_asked
+    ∷ released_is_asked_elsewhere
+    ∷ released_in_endgame
     ∷ []
 
 abbrev pub second_examples : List Example
 second_examples =
-    released_is_asked_elsewhere
-    ∷ released_in_endgame
-    ∷ released_piece_is_unbegun
+    released_piece_is_unbegun
     ∷ released_is_asked_again
     ∷ released_arrives_after_all
     ∷ late_is_asked_elsewhere
@@ -1696,16 +1816,16 @@ second_examples =
     ∷ two_levels
     ∷ raised_in_mid_download
     ∷ streaming
-    ∷ []
-
-abbrev pub third_examples : List Example
-third_examples =
-    earlier_piece_in_order
+    ∷ earlier_piece_in_order
     ∷ in_order_told_off
     ∷ peer_of_low_levels
     ∷ unwanted_by_level
     ∷ levels_of_none
-    ∷ want_after_levels
+    ∷ []
+
+abbrev pub third_examples : List Example
+third_examples =
+    want_after_levels
     ∷ level_before_the_bits
     ∷ endgame_of_all_levels
     ∷ asked_outlasts_its_level
@@ -1726,17 +1846,17 @@ third_examples =
     ∷ none_of_the_open_is_shown
     ∷ in_order_however_many_are_open
     ∷ endgame_at_few
-    ∷ []
-
-abbrev pub fourth_examples : List Example
-fourth_examples =
-    endgame_at_none
+    ∷ endgame_at_none
     ∷ unshown_piece_holds_up_endgame
     ∷ endgame_over_what_is_shown
     ∷ shown_piece_holds_up_endgame
     ∷ lower_level_is_awaited_too
     ∷ slow_peer_gets_low_levels
-    ∷ reach_in_endgame
+    ∷ []
+
+abbrev pub fourth_examples : List Example
+fourth_examples =
+    reach_in_endgame
     ∷ reach_goes_with_its_peer
     ∷ refusals_of_reach_and_order
     ∷ window_comes_in_order
@@ -1754,6 +1874,14 @@ fourth_examples =
     ∷ spent_piece_is_passed_by
     ∷ spent_open_piece_is_passed_by
     ∷ refusals_of_late
+    ∷ alone_begins_its_own
+    ∷ alone_told_off
+    ∷ choke_shares_its_pieces
+    ∷ another_brings_a_block_of_its_own
+    ∷ alone_goes_with_its_peer
+    ∷ alone_in_order
+    ∷ two_work_alone
+    ∷ refusals_of_alone
     ∷ []
 
 abbrev pub examples : List Example

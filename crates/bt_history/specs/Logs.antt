@@ -8,7 +8,7 @@ use Rattle.bt_history.specs.declared.event.Action.TheVariants as actions
 use Rattle.bt_history.specs.declared.event.Event.{Event}
 use Rattle.bt_history.specs.declared.mark.CallMark.{CallMark}
 use Rattle.bt_history.specs.declared.mark.CallMark.TheVariants.{Join, Bits, Have, Choke, Unchoke, Next, Arrived, Settle, Leave, Want, Haves, Depth}
-use Rattle.bt_history.specs.declared.mark.CallMark.TheVariants.{Release, Level, Levels, InOrder, Reach, InOrderFrom, Lack, Late}
+use Rattle.bt_history.specs.declared.mark.CallMark.TheVariants.{Release, Level, Levels, InOrder, Reach, InOrderFrom, Lack, Late, Alone}
 use Rattle.bt_history.specs.declared.mark.Mark.{Mark}
 use Rattle.bt_history.specs.History.{History}
 
@@ -34,6 +34,7 @@ call_mark (actions.Reach n) = Reach n
 call_mark (actions.InOrderFrom n) = InOrderFrom n
 call_mark (actions.Lack p) = Lack p
 call_mark (actions.Late p begin) = Late p begin
+call_mark (actions.Alone alone) = Alone alone
 
 -- the mark of an entry that so many entries are older than
 abbrev pub mark_of : ℕ → Event → Mark
@@ -85,6 +86,7 @@ answers (Reach n) Quiet = true
 answers (InOrderFrom n) Quiet = true
 answers (Lack p) (Noted shown) = true
 answers (Late p begin) Quiet = true
+answers (Alone alone) Quiet = true
 answers (Next word) reply = answers_next reply
 answers (Arrived p begin len) reply = answers_arrived reply
 answers (Settle p) Had = true

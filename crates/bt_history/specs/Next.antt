@@ -9,7 +9,7 @@ use Rattle.bt_history.specs.Setting.{Setting, each_block, some_block}
 use Rattle.bt_history.specs.History.{History}
 use Rattle.bt_history.specs.Peers.{is_open, asked, asked_count, due, depth_of, overdue}
 use Rattle.bt_history.specs.Pieces.{held, asker_count, unasked, begun, unbegun, availability, wanted, endgame, interesting, had_count}
-use Rattle.bt_history.specs.Pieces.{comes_in_order, gives, is_open_piece, level, offers, open_count}
+use Rattle.bt_history.specs.Pieces.{comes_in_order, gives, is_free_for, is_open_piece, level, offers, open_count}
 
 -- just this reply, or a Cancel or a Request of any block that passes the test
 pub data Answer : Type 0 where
@@ -17,9 +17,9 @@ pub data Answer : Type 0 where
   CancelOf : (test : Block → Bool) → Answer
   RequestOf : (test : Block → Bool) → Answer
 
--- a request of block b to q is of use: the block is unasked, its piece is wanted, and q may be asked for it and isn't late with it
+-- a request of block b to q is of use: the block is unasked, its piece is wanted, and q may be asked for it, isn't late with it and may take part
 abbrev pub usable : Setting → History → ℕ → Block → Bool
-usable s h q b = unasked s h b && (wanted s h b.piece && (gives h q b.piece && not (overdue h q b)))
+usable s h q b = unasked s h b && (wanted s h b.piece && (gives h q b.piece && (not (overdue h q b) && is_free_for s h q b.piece)))
 
 -- levels: a usable block of a level that no usable block is above
 abbrev pub tops : Setting → History → ℕ → Block → Bool
@@ -30,9 +30,9 @@ abbrev pub none_rarer : Setting → History → (ℕ → Bool) → ℕ → Bool
 none_rarer s h test p = all_below (piece_count s.torrent) (λ r.
     not (test r && (level h r == level h p)) || nat_le (availability s h p) (availability s h r))
 
--- an open piece that q offers
+-- an open piece that q offers and may take part in
 abbrev pub resumes : Setting → History → ℕ → ℕ → Bool
-resumes s h q p = is_open_piece s h p && offers s h q p
+resumes s h q p = is_open_piece s h p && (offers s h q p && is_free_for s h q p)
 
 -- a wanted unbegun piece that q offers
 abbrev pub is_candidate : Setting → History → ℕ → ℕ → Bool

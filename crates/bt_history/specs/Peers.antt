@@ -4,7 +4,7 @@ use Rattle.std.specs.Prelude.{Option, None, Some, is_some, is_none, slice_index_
 use Rattle.std.specs.List.{filter, list_any}
 use Rattle.bt_meta.specs.declared.block.Block.{Block}
 use Rattle.bt_history.specs.declared.event.Action.{Action}
-use Rattle.bt_history.specs.declared.event.Action.TheVariants.{Join, Bits, Have, Choke, Unchoke, Arrived, Leave, Haves, Depth, Release, Reach, Lack, Late}
+use Rattle.bt_history.specs.declared.event.Action.TheVariants.{Join, Bits, Have, Choke, Unchoke, Arrived, Leave, Haves, Depth, Release, Reach, Lack, Late, Alone}
 use Rattle.bt_history.specs.declared.event.Event.{Event}
 use Rattle.bt_history.specs.declared.rules.TheConstants.{MOST_LEVEL}
 use Rattle.bt_history.specs.History.{History, own_call, same_begin, stored, requested, cancelled}
@@ -197,3 +197,16 @@ reach_after call before = before
 unfoldable pub reach : History → ℕ → ℕ
 reach [] q = MOST_LEVEL
 reach (e ∷ h) q = reach_after (own_call q e) (reach h q)
+
+-- ---- which peers work alone
+
+-- whether the peer works alone then: one that joins doesn't
+abbrev pub alone_after : Option Action → Bool → Bool
+alone_after (Some (Alone alone)) before = alone
+alone_after (Some Join) before = false
+alone_after call before = before
+
+-- q works alone: the newest that was told of it since it joined
+unfoldable pub alone : History → ℕ → Bool
+alone [] q = false
+alone (e ∷ h) q = alone_after (own_call q e) (alone h q)

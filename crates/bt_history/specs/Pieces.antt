@@ -6,10 +6,10 @@ use Rattle.bt_meta.specs.Layout.{piece_count, block_count, block}
 use Rattle.bt_history.specs.declared.event.Action.{Action}
 use Rattle.bt_history.specs.declared.event.Action.TheVariants.{Want, Level, Levels, InOrder, InOrderFrom}
 use Rattle.bt_history.specs.declared.rules.TheConstants.{MOST_LEVEL, USUAL_LEVEL}
-use Rattle.bt_history.specs.Counting.{any_below, count_below}
+use Rattle.bt_history.specs.Counting.{all_below, any_below, count_below}
 use Rattle.bt_history.specs.Setting.{Setting, some_block_of, each_block_of, some_block, each_block}
 use Rattle.bt_history.specs.History.{History, counted_call, stored, failed, passed}
-use Rattle.bt_history.specs.Peers.{flag, joined, shows, expected, overdue, reach}
+use Rattle.bt_history.specs.Peers.{flag, joined, shows, is_open, expected, overdue, reach, alone}
 
 -- the bytes of block b, if it is held: stored, and its piece has not failed a check since
 unfoldable pub kept : History → Block → Option (List ℕ)
@@ -144,6 +144,31 @@ is_spent s h q p =
 -- q shows piece p, and isn't late with all that is left to ask of it
 abbrev pub offers : Setting → History → ℕ → ℕ → Bool
 offers s h q p = shows h q p && not (is_spent s h q p)
+
+-- the peer is q's
+abbrev pub is_peer : Option ℕ → ℕ → Bool
+is_peer None q = false
+is_peer (Some w) q = w == q
+
+-- nobody but q has to do with block b: its peer brought the block, or no other is expected to
+abbrev pub is_of : Setting → History → ℕ → Block → Bool
+is_of s h q b = if held h b then is_peer (sender h b) q else all_below s.workers (λ w. not (expected h w b) || (w == q))
+
+-- all that is held and expected of piece p is q's
+abbrev pub is_sole : Setting → History → ℕ → ℕ → Bool
+is_sole s h q p = each_block_of s.torrent p (is_of s h q)
+
+-- piece p is q's own: q works alone and lets itself be asked, and all that is held and expected of the begun piece is q's
+abbrev pub is_own : Setting → History → ℕ → ℕ → Bool
+is_own s h q p = alone h q && (is_open h q && (begun s h p && is_sole s h q p))
+
+-- piece p belongs to a peer that works alone
+abbrev pub belongs : Setting → History → ℕ → Bool
+belongs s h p = any_below s.workers (λ q. is_own s h q p)
+
+-- q may take part in piece p: one that works alone where nobody else does, and any other where the piece belongs to nobody
+abbrev pub is_free_for : Setting → History → ℕ → ℕ → Bool
+is_free_for s h q p = if alone h q then is_sole s h q p else not (belongs s h p)
 
 -- endgame waits for piece p: it is wanted and, where the rules say so, a joined peer shows it
 abbrev pub awaited : Setting → History → ℕ → Bool

@@ -12,7 +12,7 @@ use bytes::Bytes;
 use std::sync::Arc;
 
 /// What a peer's worker tells the picker of its peer, or asks of it. All but `Next`, `Settle`, `Want`, `Depth`, `Release`, `Level`, `Levels`,
-/// `InOrder`, `Reach`, `InOrderFrom` and `Late` tell what came on the wire (BEP 3, BEP 6, BEP 54).
+/// `InOrder`, `Reach`, `InOrderFrom`, `Late` and `Alone` tell what came on the wire (BEP 3, BEP 6, BEP 54).
 #[derive(Drop)]
 pub enum Call {
     /// The handshakes were exchanged.
@@ -77,6 +77,10 @@ pub enum Call {
         piece: u32,
         begin: u32,
     },
+    /// From now on the peer works alone, or like the others again, as it does from when it joins. One that works alone begins pieces, and goes
+    /// on with those that nobody else brought or is expected to bring a block of. Others are asked for none of these pieces' blocks until
+    /// endgame. So the sender of a whole piece is known where a check failed, or a fast peer has pieces to itself.
+    Alone(bool),
 }
 
 /// Why a call was refused.
@@ -201,6 +205,7 @@ impl Call {
                 piece: *piece,
                 begin: *begin,
             },
+            Call::Alone(alone) => CallMark::Alone(*alone),
         }
     }
 }

@@ -41,6 +41,7 @@ pub enum Action {
         piece: u32,
         begin: u32,
     },
+    Alone(bool),
 }
 
 /// An entry by its plain values.

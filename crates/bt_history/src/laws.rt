@@ -1,6 +1,6 @@
 //! What holds after every legal history, whoever made it: laws of the definitions alone. Each is a function with an empty body
 //! whose contract is the law; a journal that a desk keeps, or that `audit` accepts, meets what they require.
-ghost use Rattle.std.specs.Prelude.{ℕ, if◌then◌else◌, is_some, ◌≡◌, ◌↔◌, ◌≢◌, ◌≤◌, ◌<◌, ◌+◌, ◌∷◌, ◌++◌, ◌==◌, ◌&&◌, ◌||◌, not, IsTrue, false};
+ghost use Rattle.std.specs.Prelude.{ℕ, if◌then◌else◌, is_some, ◌≡◌, ◌↔◌, ◌≢◌, ◌≤◌, ◌<◌, ◌+◌, ◌∷◌, ◌++◌, ◌==◌, ◌&&◌, ◌||◌, not, IsTrue, false, true};
 ghost use Rattle.std.specs.List.{filter};
 ghost use Rattle.sha1.specs.Sha1.{sha1};
 ghost use Rattle.bt_meta.specs.declared.block.Block.{Block};
@@ -13,13 +13,14 @@ ghost use Rattle.bt_history.specs.Before.{asked_before, chosen_before, doubles_b
 ghost use Rattle.bt_history.specs.Before.{never_adds, never_deepens, never_levels, never_releases, next_strict, next_unrushed, endgame_of_all};
 ghost use Rattle.bt_history.specs.Before.{doubles_unreached, in_order_before, never_reaches, never_windows, next_unwindowed, usable_unreached};
 ghost use Rattle.bt_history.specs.Before.{any_asker_count, asked_alone_undelayed, asked_of_any, is_candidate_undelayed, never_delays};
-ghost use Rattle.bt_history.specs.Before.{resumes_undelayed, usable_undelayed};
+ghost use Rattle.bt_history.specs.Before.{never_alone, resumes_undelayed, resumes_unowned, usable_undelayed, usable_unowned};
 ghost use Rattle.bt_history.specs.History.{same_begin};
 ghost use Rattle.bt_history.specs.Epochs.{asked_alone, epoch, is_idle, pass_by};
 ghost use Rattle.bt_history.specs.Next.{Exactly, doubles, is_candidate, is_strict, next_answer, resumes, usable};
 ghost use Rattle.bt_history.specs.Peers.{asked, asked_count, depth_of, depth_so_far, due, due_count, late, ListsAsked, outstanding, shows};
-ghost use Rattle.bt_history.specs.Peers.{dues, expected, is_open, joined, overdue, reach, told_depth};
+ghost use Rattle.bt_history.specs.Peers.{alone, dues, expected, is_open, joined, overdue, reach, told_depth};
 ghost use Rattle.bt_history.specs.Pieces.{asker_count, held, full, content, had, endgame, unasked, awaited, wanted, was_endgame, sender, chosen};
+ghost use Rattle.bt_history.specs.Pieces.{is_free_for, is_own, is_sole};
 ghost use Rattle.bt_history.specs.Pieces.{asked_of_some, availability, begun, comes_in_order, kept, level, open_count, order_from, unbegun};
 ghost use Rattle.bt_history.specs.Legal.{IsLegal, place_at};
 ghost use Rattle.bt_history.specs.PickRules.{IsBy, rule_of};
@@ -194,7 +195,8 @@ pub fn wide_is_as_before(
 {}
 
 /// A block that is released is asked of this peer no more, and all else is as it was: what is asked and in which order, which cancels are
-/// due, the bytes that are held and who sent them, each peer and its depth, which pieces are complete, their levels and their order.
+/// due, the bytes that are held and who sent them, each peer with its depth and its reach, who works alone, which pieces are complete, their
+/// levels and their order.
 pub fn release_frees_one(
     journal: &[Entry],
     worker: u32,
@@ -223,11 +225,12 @@ pub fn release_frees_one(
     ensures level { level (giving_up worker piece begin Reply.Quiet ∷ history_of journal.now) block.piece ≡ level (history_of journal.now) block.piece }
     ensures reach { reach (giving_up worker piece begin Reply.Quiet ∷ history_of journal.now) other ≡ reach (history_of journal.now) other }
     ensures order { order_from (giving_up worker piece begin Reply.Quiet ∷ history_of journal.now) ≡ order_from (history_of journal.now) }
+    ensures alone { alone (giving_up worker piece begin Reply.Quiet ∷ history_of journal.now) other ≡ alone (history_of journal.now) other }
 {}
 
 /// A peer that has a piece no more shows it no more, is asked for none of its blocks, and has told something. All else is as it was: what else is
 /// shown, what else is asked and in which order, which cancels are due, the bytes that are held and who sent them, each peer with its depth and
-/// its reach, which pieces are complete, their levels and their order.
+/// its reach, who works alone, which pieces are complete, their levels and their order.
 pub fn lack_takes_one(
     journal: &[Entry],
     worker: u32,
@@ -257,6 +260,7 @@ pub fn lack_takes_one(
         ≡ had (history_of journal.now) block.piece }
     ensures level { level (lacking worker piece (Reply.Noted interests) ∷ history_of journal.now) block.piece ≡ level (history_of journal.now) block.piece }
     ensures order { order_from (lacking worker piece (Reply.Noted interests) ∷ history_of journal.now) ≡ order_from (history_of journal.now) }
+    ensures alone { alone (lacking worker piece (Reply.Noted interests) ∷ history_of journal.now) other ≡ alone (history_of journal.now) other }
 {}
 
 /// Where no block was released, what is asked is what it was before there was a release, and so are the lines of all peers.
@@ -496,6 +500,60 @@ pub fn requests_tell_their_rule(
         (rule_of (setting_of torrent.now.layout workers rules) (event_of entry.now ∷ history_of older.now) block) }
 {}
 
+/// A peer that works alone is the first to be asked for a block only of a piece that nobody else has to do with: all that is held of it came
+/// from that peer, and no other is expected to bring a block of it. So a whole piece of its own has one sender.
+pub fn alone_has_one_sender(
+    torrent: &Torrent,
+    workers: u32,
+    rules: Rules,
+    older: &[Entry],
+    entry: &Entry,
+    block: Block,
+)
+    requires legal { IsLegal (setting_of torrent.now.layout workers rules) (event_of entry.now ∷ history_of older.now) }
+    requires request { entry.now.reply ≡ Reply.Request block }
+    requires works { IsTrue (alone (history_of older.now) entry.now.worker) }
+    requires first { IsTrue (unasked (setting_of torrent.now.layout workers rules) (history_of older.now) block) }
+    ensures { IsTrue (is_sole (setting_of torrent.now.layout workers rules) (history_of older.now) entry.now.worker block.piece) }
+{}
+
+/// Nobody is the first to be asked for a block of a piece that is another peer's own.
+pub fn belongs_to_one(
+    torrent: &Torrent,
+    workers: u32,
+    rules: Rules,
+    older: &[Entry],
+    entry: &Entry,
+    block: Block,
+    owner: u32,
+)
+    requires legal { IsLegal (setting_of torrent.now.layout workers rules) (event_of entry.now ∷ history_of older.now) }
+    requires request { entry.now.reply ≡ Reply.Request block }
+    requires worker { owner < workers }
+    requires other { owner ≢ entry.now.worker }
+    requires own { IsTrue (is_own (setting_of torrent.now.layout workers rules) (history_of older.now) owner block.piece) }
+    ensures { unasked (setting_of torrent.now.layout workers rules) (history_of older.now) block ≡ false }
+{}
+
+/// Where nobody was told to work alone nobody does, each peer may take part in every piece, and what may be asked of a peer is what it was
+/// before a peer could work alone.
+pub fn never_alone_is_as_before(
+    torrent: &Torrent,
+    workers: u32,
+    rules: Rules,
+    journal: &[Entry],
+    worker: u32,
+    block: Block,
+)
+    requires { IsTrue (never_alone (history_of journal.now)) }
+    ensures alone { alone (history_of journal.now) worker ≡ false }
+    ensures free { is_free_for (setting_of torrent.now.layout workers rules) (history_of journal.now) worker block.piece ≡ true }
+    ensures usable { usable (setting_of torrent.now.layout workers rules) (history_of journal.now) worker block
+        ≡ usable_unowned (setting_of torrent.now.layout workers rules) (history_of journal.now) worker block }
+    ensures resumes { resumes (setting_of torrent.now.layout workers rules) (history_of journal.now) worker block.piece
+        ≡ resumes_unowned (setting_of torrent.now.layout workers rules) (history_of journal.now) worker block.piece }
+{}
+
 /// Where no part of the levels was told to come in order, all pieces do, or none does: the answer to Next is what it was before.
 pub fn no_window_is_as_before(
     torrent: &Torrent,
@@ -528,8 +586,8 @@ pub fn flat_is_as_before(
 
 /// A peer that is told to be late with a block it was asked for keeps the request. The block stays asked of it, in its place in the line, and
 /// counts for its depth; its cancel comes due as ever. It isn't expected of the peer any more. All else is as it was: what else is expected,
-/// which cancels are due, the bytes that are held and who sent them, what each peer shows, its depth and its reach, which pieces are complete,
-/// their levels and their order.
+/// which cancels are due, the bytes that are held and who sent them, what each peer shows, its depth and its reach, who works alone, which
+/// pieces are complete, their levels and their order.
 pub fn late_keeps_the_request(
     journal: &[Entry],
     worker: u32,
@@ -558,6 +616,7 @@ pub fn late_keeps_the_request(
     ensures level { level (delaying worker piece begin Reply.Quiet ∷ history_of journal.now) block.piece ≡ level (history_of journal.now) block.piece }
     ensures reach { reach (delaying worker piece begin Reply.Quiet ∷ history_of journal.now) other ≡ reach (history_of journal.now) other }
     ensures order { order_from (delaying worker piece begin Reply.Quiet ∷ history_of journal.now) ≡ order_from (history_of journal.now) }
+    ensures alone { alone (delaying worker piece begin Reply.Quiet ∷ history_of journal.now) other ≡ alone (history_of journal.now) other }
 {}
 
 /// What any other peer is answered after a request was told late is what it is answered after the request was released.
@@ -611,6 +670,7 @@ pub fn plain_is_as_before(torrent: &Torrent, workers: u32, rules: Rules, journal
     requires levels { IsTrue (never_levels (history_of journal.now)) }
     requires reaches { IsTrue (never_reaches (history_of journal.now)) }
     requires delays { IsTrue (never_delays (history_of journal.now)) }
+    requires alone { IsTrue (never_alone (history_of journal.now)) }
     requires wide { workers ≤ rules.askers }
     requires strict { rules.«open» ≡ 0 }
     requires deep { rules.depth ≤ rules.rush }

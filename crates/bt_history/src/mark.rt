@@ -25,6 +25,7 @@ pub enum CallMark {
     InOrderFrom(u8),
     Lack(u32),
     Late { piece: u32, begin: u32 },
+    Alone(bool),
 }
 
 /// What a worker's log keeps of an entry: its place in the journal (the number of older entries), its call and its reply.

@@ -11,7 +11,7 @@ use Rattle.bt_history.specs.Setting.{Setting, each_block_of, is_block, some_bloc
 use Rattle.bt_history.specs.History.{History}
 use Rattle.bt_history.specs.Legal.{IsLegal}
 use Rattle.bt_history.specs.Peers.{overdue, reach}
-use Rattle.bt_history.specs.Pieces.{availability, begun, gives, had, held_or_asked, is_open_piece, level, offers, open_count, unasked, wanted}
+use Rattle.bt_history.specs.Pieces.{availability, begun, gives, had, held_or_asked, is_open_piece, level, open_count, unasked, wanted}
 use Rattle.bt_history.specs.Next.{continues, goes_first, is_candidate, is_rarest, is_strict, none_rarer, resumes, tops, usable}
 use Rattle.bt_history.specs.Picks.{is_first, place_in_round}
 use Rattle.bt_history.proofs.Allowed.{top_usable}
@@ -24,7 +24,7 @@ use Rattle.bt_tables.specs.Risings.{Rises}
 use Rattle.bt_tables.specs.Standings.{ListsOpen, stage_of_row}
 use Rattle.bt_tables.specs.declared.piece.Stage.TheVariants.{Open}
 use Rattle.bt_picker.specs.Search.{FindsLeast, FindsListed, FindsOf, FindsRarest, IsLevel, IsRarer, NoneAbove, goes_on, is_candidate_at, order_of, rank_of, resumes_at}
-use Rattle.bt_picker.specs.Search.{is_left, offers_at, resuming_order}
+use Rattle.bt_picker.specs.Search.{is_left, serves_at, resuming_order}
 use Rattle.bt_picker.specs.Tables.{groups_of, piece_of}
 use Rattle.bt_picker.proofs.Levelled.{given, open_gives, tops_at, usable_below, usable_parts}
 use Rattle.bt_picker.proofs.Picking.{least_first}
@@ -33,6 +33,8 @@ use Rattle.bt_picker.proofs.Rounds.{later_place, order_rank, place_bound, place_
 use Rattle.bt_picker.proofs.Scans.{first_in_piece, none_in_pieces}
 use Rattle.bt_picker.proofs.Stages.{begun_stage, candidate_at, listed_open, open_listed, open_within, stage_open}
 use Rattle.bt_picker.proofs.Telling.{wanted_chosen}
+use Rattle.bt_history.specs.Pieces.{is_free_for}
+use Rattle.bt_picker.specs.Search.{serves}
 
 -- ---- open pieces and their list
 
@@ -62,36 +64,36 @@ module _ (s : Setting) (h : History) (p : ℕ) (lp : p < piece_count s.torrent) 
           (λ k. held_or_asked s h (block s.torrent p k)) (λ k lk. not-false (held_or_asked s h (block s.torrent p k))
           (any_fails (block_count s.torrent p) (λ j. unasked s h (block s.torrent p j)) k none lk))))
 
--- an open piece of this level that the peer offers
+-- an open piece of this level that the peer serves
 pub resumes_parts : (s : Setting) (h : History) (q n p : ℕ) → resumes_at s h q n p ≡ true
-    → (is_open_piece s h p ≡ true) × (offers s h q p ≡ true) × (level h p ≡ n)
+    → (is_open_piece s h p ≡ true) × (serves s h q p ≡ true) × (level h p ≡ n)
 resumes_parts s h q n p is =
     let parts = and_parts (resumes s h q p) (level h p == n) is in
-    let own = and_parts (is_open_piece s h p) (offers s h q p) parts.0 in
+    let own = and_parts (is_open_piece s h p) (serves s h q p) parts.0 in
     (own.0, own.1, eqb-true (level h p) n parts.1)
 
 -- it is found in the list of open pieces
 module _ (s : Setting) (h : History) (q n : ℕ) (pieces : List ℕ) (lists : ListsOpen (groups_of s h) pieces) where
-  listed_resumes : (i : ℕ) → i < length pieces → offers_at s h q n (at pieces i) ≡ true → resumes_at s h q n (at pieces i) ≡ true
+  listed_resumes : (i : ℕ) → i < length pieces → serves_at s h q n (at pieces i) ≡ true → resumes_at s h q n (at pieces i) ≡ true
   listed_resumes i li shown =
-      let parts = and_parts (offers s h q (at pieces i)) (level h (at pieces i) == n) shown in
+      let parts = and_parts (serves s h q (at pieces i)) (level h (at pieces i) == n) shown in
       let lp = open_within s h pieces lists i li in
       and_from (resumes s h q (at pieces i)) _ (and_from (is_open_piece s h (at pieces i)) _
       (stage_opened s h (at pieces i) lp (listed_open s h pieces lists i li)) parts.0) parts.1
 
   resumes_listed : (p : ℕ) → p < piece_count s.torrent → resumes_at s h q n p ≡ true
-      → (i : ℕ) × (i < length pieces) × (at pieces i ≡ p) × (offers_at s h q n (at pieces i) ≡ true)
+      → (i : ℕ) × (i < length pieces) × (at pieces i ≡ p) × (serves_at s h q n (at pieces i) ≡ true)
   resumes_listed p lp is =
       let parts = resumes_parts s h q n p is in
       let found = open_listed s h pieces p lists lp (open_stage s h p lp parts.0) in (
         found.0,
         found.1,
         found.2,
-        ap (offers_at s h q n) found.2 ∙ and_from (offers s h q p) (level h p == n) parts.1 (eq-eqb (level h p) n parts.2),
+        ap (serves_at s h q n) found.2 ∙ and_from (serves s h q p) (level h p == n) parts.1 (eq-eqb (level h p) n parts.2),
       )
 
   -- so what ranks first among the listed ones ranks first of all
-  pub resuming_found : (rank : ℕ → ℕ) (found : Option ℕ) → FindsRarest (offers_at s h q n) rank pieces (length pieces) found
+  pub resuming_found : (rank : ℕ → ℕ) (found : Option ℕ) → FindsRarest (serves_at s h q n) rank pieces (length pieces) found
       → (FindsLeast (resumes_at s h q n) rank 0 (piece_count s.torrent) found) × IfSome found (λ p. p < piece_count s.torrent)
   resuming_found rank None none = (
     λ p low lp. false_from_ne_true (resumes_at s h q n p) (λ is.
@@ -101,7 +103,7 @@ module _ (s : Setting) (h : History) (q n : ℕ) (pieces : List ℕ) (lists : Li
   )
   resuming_found rank (Some p) some = (
     (
-      subst (λ (r : ℕ). resumes_at s h q n r ≡ true) some.1.2 (listed_resumes some.1.0 some.1.1 (ap (offers_at s h q n) some.1.2 ∙ some.0)),
+      subst (λ (r : ℕ). resumes_at s h q n r ≡ true) some.1.2 (listed_resumes some.1.0 some.1.1 (ap (serves_at s h q n) some.1.2 ∙ some.0)),
       λ r low lr is.
           let listed = resumes_listed r lr is in
           subst (λ (x : ℕ). rank p ≤ rank x) listed.2 (some.2 listed.0 listed.1 listed.3),
@@ -299,7 +301,7 @@ module _ (s : Setting) (h : History) (q n : ℕ) (above : NoneAbove s h q n) whe
 
   module _ (p : ℕ) (lp : p < piece_count s.torrent)
       (first : FindsLeast (resumes_at s h q n) (resuming_order s h) 0 (piece_count s.torrent) (Some p)) where
-    own_parts : (is_open_piece s h p ≡ true) × (offers s h q p ≡ true) × (level h p ≡ n)
+    own_parts : (is_open_piece s h p ≡ true) × (serves s h q p ≡ true) × (level h p ≡ n)
     own_parts = resumes_parts s h q n p first.0
 
     least_among : (r : ℕ) → r < piece_count s.torrent → resumes s h q r ≡ true → level h r ≡ n → resuming_order s h p ≤ resuming_order s h r
@@ -321,7 +323,7 @@ module _ (s : Setting) (h : History) (q n : ℕ) (above : NoneAbove s h q n) whe
           × (is_first s h word (continues s h q) b ≡ true)
       going_on word found finds =
           let stage = open_stage s h p lp own_parts.0 in
-          let shown = and_from (offers s h q p) (level h p == n) own_parts.1 (eq-eqb (level h p) n own_parts.2) in
+          let shown = and_from (serves s h q p) (level h p == n) own_parts.1 (eq-eqb (level h p) n own_parts.2) in
           let known = given s h q n p found near (open_gives s h q n p layout is lp stage shown) finds in
           let b = known.0 in
           let level_is : level h b.piece ≡ n = ap (level h) known.3 ∙ own_parts.2 in
@@ -355,7 +357,7 @@ module _ (s : Setting) (h : History) (q n : ℕ) (above : NoneAbove s h q n) whe
               ⊎_elim
               (λ (same : p ≡ r).
               let c = block s.torrent r k in
-              let parts = usable_parts (unasked s h c) (wanted s h r) (gives h q r) (not (overdue h q c))
+              let parts = usable_parts (unasked s h c) (wanted s h r) (gives h q r) (not (overdue h q c)) (is_free_for s h q r)
               (top_usable s h q c (and_parts (tops s h q c) _ too).0) in
               subst (λ (x : ℕ). (b.piece < x) ⊎ ((b.piece ≡ x) × (b.begin ≤ block_size * k))) same
               (first_in_piece s.torrent p (is_left s h q) b (subst (FindsOf s.torrent p (is_left s h q)) found_is finds) k
@@ -390,7 +392,7 @@ module _ (s : Setting) (h : History) (q n : ℕ) (above : NoneAbove s h q n) whe
         by_bound r lr known.0 its candidate (s.most_open == 0) refl known.2)))
       where
         by_bound : (r : ℕ) → r < piece_count s.torrent → resumes_at s h q n r ≡ true
-            → (is_open_piece s h r ≡ true) × (offers s h q r ≡ true) × (level h r ≡ n)
+            → (is_open_piece s h r ≡ true) × (serves s h q r ≡ true) × (level h r ≡ n)
             → (is_candidate s h q c ≡ true) × (level h c ≡ n) → (x : Bool) → (s.most_open == 0) ≡ x
             → (x || (none_rarer s h (resumes s h q) r && (is_strict s h || is_rarest s h q r))) ≡ true → ⊥
         by_bound r lr on its candidate true is either =

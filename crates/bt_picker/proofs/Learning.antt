@@ -41,6 +41,8 @@ use Rattle.bt_picker.proofs.Stages.{candidate_parts}
 use Rattle.bt_picker.proofs.Telling.{had_rows, unchosen, untouched_row, wanted_chosen}
 use Rattle.bt_picker.proofs.Scans.{first_block, lacks_found}
 use Rattle.bt_tables.proofs.Tabled.{edit_read, get_or_is_table, get_or_table, length_edit, map_table}
+use Rattle.bt_history.specs.Pieces.{is_free_for}
+use Rattle.bt_history.proofs.Owning.{unbegun_free}
 
 -- ---- a fresh piece that the peer shows is a candidate, where the peer is late with nothing, and there are no others
 
@@ -120,9 +122,10 @@ candidate_block s h w p takes layout lp fits =
       block_is_block s.torrent p 0 lp some,
       and_from (unasked s h (block s.torrent p 0)) _
           (ap not (any_fails (block_count s.torrent p) (λ k. held_or_asked s h (block s.torrent p k)) 0 parts.3 some))
-          (and_from (wanted s h p) _ parts.0 (and_from (gives h w p) (not (overdue h w (block s.torrent p 0)))
+          (and_from (wanted s h p) _ parts.0 (and_from (gives h w p) _
           (and_from (shows h w p) (nat_le (level h p) (reach h w)) parts.1 (le-leb (level h p) (reach h w) (takes.0 p)))
-          (ap not (takes.1 (block s.torrent p 0))))),
+          (and_from (not (overdue h w (block s.torrent p 0))) (is_free_for s h w p) (ap not (takes.1 (block s.torrent p 0)))
+          (unbegun_free s h w p (and_from (not (had h p)) _ (ap not parts.2) (ap not parts.3)))))),
     )
 
 -- without a usable block there is no candidate

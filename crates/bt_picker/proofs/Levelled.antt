@@ -22,7 +22,7 @@ use Rattle.bt_tables.specs.Orders.{at}
 use Rattle.bt_tables.specs.declared.piece.Stage.TheVariants.{Open}
 use Rattle.bt_tables.specs.Standings.{ListsOpen, first_group, group_number, group_of_row, place_of, stage_of_row}
 use Rattle.bt_picker.specs.Search.{FindsLeast, FindsListed, FindsOf, IsLevel, NoneAbove, NoneAt, goes_on, is_candidate_at, lesser_of}
-use Rattle.bt_picker.specs.Search.{is_left, offers_at, rank_of}
+use Rattle.bt_picker.specs.Search.{is_left, serves_at, rank_of}
 use Rattle.bt_picker.specs.Tables.{groups_of, piece_of}
 use Rattle.bt_picker.proofs.Rarest.{at_level}
 use Rattle.bt_history.proofs.Delays.{left_unspent}
@@ -32,6 +32,9 @@ use Rattle.bt_picker.proofs.Stages.{stage_open}
 use Rattle.bt_tables.proofs.Apart.{place_few}
 use Rattle.bt_tables.specs.declared.piece.TheConstants.{SPAN}
 use Rattle.bt_picker.proofs.Telling.{wanted_chosen}
+use Rattle.bt_history.specs.Pieces.{is_free_for}
+use Rattle.bt_history.proofs.Owning.{unbegun_free}
+use Rattle.bt_picker.specs.Search.{serves}
 
 -- a piece of this level that has a block to ask of the peer: it shows the piece, which is wanted, and of which a block is left
 pub record Gives (s : Setting) (h : History) (q n p : ℕ) : Type 0 where
@@ -40,15 +43,17 @@ pub record Gives (s : Setting) (h : History) (q n p : ℕ) : Type 0 where
   pub shown : shows h q p ≡ true
   pub picked : chosen h p ≡ true
   pub left : some_block_of s.torrent p (is_left s h q) ≡ true
+  pub free : is_free_for s h q p ≡ true
 
 -- ---- a piece with a usable block
 
-pub usable_parts : (u w v o : Bool) → (u && (w && (v && o))) ≡ true → (u ≡ true) × (w ≡ true) × (v ≡ true) × (o ≡ true)
-usable_parts true true true true is = (refl, refl, refl, refl)
-usable_parts true true true false is = absurd (false≢true is)
-usable_parts true true false o is = absurd (false≢true is)
-usable_parts true false v o is = absurd (false≢true is)
-usable_parts false w v o is = absurd (false≢true is)
+pub usable_parts : (u w v o f : Bool) → (u && (w && (v && (o && f)))) ≡ true → (u ≡ true) × (w ≡ true) × (v ≡ true) × (o ≡ true) × (f ≡ true)
+usable_parts true true true true true is = (refl, refl, refl, refl, refl)
+usable_parts true true true true false is = absurd (false≢true is)
+usable_parts true true true false f is = absurd (false≢true is)
+usable_parts true true false o f is = absurd (false≢true is)
+usable_parts true false v o f is = absurd (false≢true is)
+usable_parts false w v o f is = absurd (false≢true is)
 
 module _ (s : Setting) (h : History) (q p : ℕ) (legal : IsLegal s h) (lp : p < piece_count s.torrent)
     (some : some_block_of s.torrent p (usable s h q) ≡ true) where
@@ -56,8 +61,9 @@ module _ (s : Setting) (h : History) (q p : ℕ) (legal : IsLegal s h) (lp : p <
   found = (let w = any_witness (block_count s.torrent p) (λ k. usable s h q (block s.torrent p k)) some in (w.0, w.1, w.2))
 
   parts : (unasked s h (block s.torrent p found.0) ≡ true) × (wanted s h p ≡ true) × (gives h q p ≡ true)
-      × (not (overdue h q (block s.torrent p found.0)) ≡ true)
-  parts = usable_parts (unasked s h (block s.torrent p found.0)) (wanted s h p) (gives h q p) (not (overdue h q (block s.torrent p found.0))) found.2
+      × (not (overdue h q (block s.torrent p found.0)) ≡ true) × (is_free_for s h q p ≡ true)
+  parts = usable_parts (unasked s h (block s.torrent p found.0)) (wanted s h p) (gives h q p) (not (overdue h q (block s.torrent p found.0)))
+      (is_free_for s h q p) found.2
 
   pub usable_shown : shows h q p ≡ true
   usable_shown = (and_parts (shows h q p) (nat_le (level h p) (reach h q)) parts.2).0
@@ -65,6 +71,9 @@ module _ (s : Setting) (h : History) (q p : ℕ) (legal : IsLegal s h) (lp : p <
   pub usable_offered : offers s h q p ≡ true
   usable_offered = and_from (shows h q p) (not (is_spent s h q p)) usable_shown (ap not (left_unspent s h q p found.0 found.1 parts.0
       (not-true (overdue h q (block s.torrent p found.0)) parts.3)))
+
+  pub usable_served : serves s h q p ≡ true
+  usable_served = and_from (offers s h q p) (is_free_for s h q p) usable_offered parts.4
 
   free : held_or_asked s h (block s.torrent p found.0) ≡ false
   free = not-true (held_or_asked s h (block s.torrent p found.0)) parts.0
@@ -111,7 +120,8 @@ none_at s h q n legal no_more no_start p lp same = false_from_ne_true (some_bloc
 pub beyond_reach : (s : Setting) (h : History) (q n : ℕ) → nat_le n (reach h q) ≡ false → NoneAt s h q n
 beyond_reach s h q n far p lp same = false_from_ne_true (some_block_of s.torrent p (usable s h q)) (λ some.
     let w = any_witness (block_count s.torrent p) (λ k. usable s h q (block s.torrent p k)) some in
-    let known = usable_parts (unasked s h (block s.torrent p w.0)) (wanted s h p) (gives h q p) (not (overdue h q (block s.torrent p w.0))) w.2 in
+    let known = usable_parts (unasked s h (block s.torrent p w.0)) (wanted s h p) (gives h q p) (not (overdue h q (block s.torrent p w.0)))
+    (is_free_for s h q p) w.2 in
     false≢true (sym far ∙ (ap (λ (m : ℕ). nat_le m (reach h q)) (sym same) ∙ (and_parts (shows h q p) (nat_le (level h p) (reach h q)) known.2).1)))
 
 -- where no piece is in the groups of the open and the unbegun ones of a level
@@ -214,18 +224,20 @@ some_unasked s h p left = by_left (some_block_of s.torrent p (unasked s h)) refl
       (any_fails (block_count s.torrent p) (λ j. unasked s h (block s.torrent p j)) k none lk))))
 
 module _ (s : Setting) (h : History) (q n p : ℕ) (layout : IsLayout s.torrent) (is : IsLevel n) where
-  -- an open piece that is offered gives
-  pub open_gives : p < piece_count s.torrent → stage_of_row (piece_of s h p) ≡ Open → offers_at s h q n p ≡ true → Gives s h q n p
+  -- an open piece that is served gives
+  pub open_gives : p < piece_count s.torrent → stage_of_row (piece_of s h p) ≡ Open → serves_at s h q n p ≡ true → Gives s h q n p
   open_gives lp stage shown =
       let known = stage_open s h p stage in
-      let at_it = and_parts (offers s h q p) (level h p == n) shown in
-      let offered = and_parts (shows h q p) (not (is_spent s h q p)) at_it.0 in
+      let at_it = and_parts (serves s h q p) (level h p == n) shown in
+      let part = and_parts (offers s h q p) (is_free_for s h q p) at_it.0 in
+      let offered = and_parts (shows h q p) (not (is_spent s h q p)) part.0 in
       record {
         within = lp;
         level_is = eqb-true (level h p) n at_it.1;
         shown = offered.0;
         picked = known.1;
         left = offered_left s h q p (some_unasked s h p known.3) (not-true (is_spent s h q p) offered.1);
+        free = part.1;
       }
 
   -- so does a candidate
@@ -240,6 +252,7 @@ module _ (s : Setting) (h : History) (q n p : ℕ) (layout : IsLayout s.torrent)
         shown = known.1;
         picked = level_chosen h p n is level_is.1;
         left = candidate_left s h q p some level_is.0;
+        free = unbegun_free s h q p (and_from (not (had h p)) _ (ap not known.2) (ap not known.3));
       }
 
 -- in a piece that gives a block that is left is usable
@@ -253,9 +266,10 @@ given_block s h q n p b near has some = (
       (ap (is_left s h q) (sym some.2) ∙ some.3) in
       and_from (unasked s h (block s.torrent p some.0)) _ parts.0
       (and_from (wanted s h p) _ (wanted_chosen s h p has.within ∙ has.picked)
-      (and_from (gives h q p) (not (overdue h q (block s.torrent p some.0)))
+      (and_from (gives h q p) _
       (and_from (shows h q p) (nat_le (level h p) (reach h q)) has.shown
-      (le-leb (level h p) (reach h q) (let same = has.level_is in omega (arith, near, same)))) parts.1))),
+      (le-leb (level h p) (reach h q) (let same = has.level_is in omega (arith, near, same))))
+      (and_from (not (overdue h q (block s.torrent p some.0))) (is_free_for s h q p) parts.1 has.free)))),
 )
 
 -- and one is found
@@ -299,7 +313,7 @@ module _ (s : Setting) (h : History) (q n : ℕ) (above : NoneAbove s h q n) whe
 -- a block that goes on is of an open piece that is listed and shown
 goes_on_listed : (s : Setting) (h : History) (q n : ℕ) (pieces : List ℕ) → IsLegal s h → ListsOpen (groups_of s h) pieces → (p k : ℕ)
     → p < piece_count s.torrent → k < block_count s.torrent p → goes_on s h q n (block s.torrent p k) ≡ true
-    → (i : ℕ) × (i < length pieces) × (at pieces i ≡ p) × (offers_at s h q n (at pieces i) ≡ true)
+    → (i : ℕ) × (i < length pieces) × (at pieces i ≡ p) × (serves_at s h q n (at pieces i) ≡ true)
 goes_on_listed s h q n pieces legal lists p k lp lk on =
     let parts = and_parts (usable s h q (block s.torrent p k)) _ on in
     let rest = and_parts (begun s h p) (level h p == n) parts.1 in
@@ -311,12 +325,12 @@ goes_on_listed s h q n pieces legal lists p k lp lk on =
       listed.0,
       listed.1,
       listed.2,
-      ap (offers_at s h q n) listed.2 ∙ and_from (offers s h q p) (level h p == n) (usable_offered s h q p legal lp some) rest.1,
+      ap (serves_at s h q n) listed.2 ∙ and_from (serves s h q p) (level h p == n) (usable_served s h q p legal lp some) rest.1,
     )
 
 -- where no open piece of the level is offered nothing goes on
 pub goes_on_none : (s : Setting) (h : History) (q n : ℕ) (pieces : List ℕ) → IsLegal s h → ListsOpen (groups_of s h) pieces
-    → FindsListed (offers_at s h q n) pieces (length pieces) None → some_block s.torrent (goes_on s h q n) ≡ false
+    → FindsListed (serves_at s h q n) pieces (length pieces) None → some_block s.torrent (goes_on s h q n) ≡ false
 goes_on_none s h q n pieces legal lists none = none_in_pieces s.torrent (goes_on s h q n) (λ p lp.
     any_none (block_count s.torrent p) (λ k. goes_on s h q n (block s.torrent p k)) (λ k lk.
     false_from_ne_true (goes_on s h q n (block s.torrent p k)) (λ on.
@@ -328,15 +342,15 @@ goes_on_none s h q n pieces legal lists none = none_in_pieces s.torrent (goes_on
 module _ (s : Setting) (h : History) (q n : ℕ) (pieces : List ℕ) (legal : IsLegal s h) (layout : IsLayout s.torrent) (is : IsLevel n)
     (lists : ListsOpen (groups_of s h) pieces) where
   -- a piece with a usable block is no less than the least open one that is shown, or than the least that may begin
-  no_less : (shown_one fresh : Option ℕ) (m : ℕ) → lesser_of shown_one fresh ≡ Some m → FindsListed (offers_at s h q n) pieces (length pieces) shown_one
-      → IfSome shown_one (λ p. (i : ℕ) → i < length pieces → offers_at s h q n (at pieces i) ≡ true → p ≤ at pieces i)
+  no_less : (shown_one fresh : Option ℕ) (m : ℕ) → lesser_of shown_one fresh ≡ Some m → FindsListed (serves_at s h q n) pieces (length pieces) shown_one
+      → IfSome shown_one (λ p. (i : ℕ) → i < length pieces → serves_at s h q n (at pieces i) ≡ true → p ≤ at pieces i)
       → FindsLeast (is_candidate_at s h q n) (λ r. r) 0 (piece_count s.torrent) fresh
       → (r : ℕ) → r < piece_count s.torrent → level h r ≡ n → some_block_of s.torrent r (usable s h q) ≡ true → m ≤ r
   no_less shown_one fresh m lesser opens first begins r lr same some = ⊎_elim
       (λ (on : (begun s h r ≡ true) × (stage_of_row (piece_of s h r) ≡ Open)).
       let listed = open_listed s h pieces r lists lr on.1 in
-      let shown : offers_at s h q n (at pieces listed.0) ≡ true = ap (offers_at s h q n) listed.2
-      ∙ and_from (offers s h q r) (level h r == n) (usable_offered s h q r legal lr some) (eq-eqb (level h r) n same) in
+      let shown : serves_at s h q n (at pieces listed.0) ≡ true = ap (serves_at s h q n) listed.2
+      ∙ and_from (serves s h q r) (level h r == n) (usable_served s h q r legal lr some) (eq-eqb (level h r) n same) in
       by_open shown_one fresh lesser opens first listed shown)
       (λ (may : is_candidate s h q r ≡ true). by_fresh shown_one fresh lesser begins (candidate_at s h q n r may same))
       (usable_piece s h q r legal lr some)
@@ -350,9 +364,9 @@ module _ (s : Setting) (h : History) (q n : ℕ) (pieces : List ℕ) (legal : Is
         value (Some x) = x
         value None = 0
 
-      by_open : (o f : Option ℕ) → lesser_of o f ≡ Some m → FindsListed (offers_at s h q n) pieces (length pieces) o
-          → IfSome o (λ p. (i : ℕ) → i < length pieces → offers_at s h q n (at pieces i) ≡ true → p ≤ at pieces i)
-          → (listed : (i : ℕ) × (i < length pieces) × (at pieces i ≡ r)) → offers_at s h q n (at pieces listed.0) ≡ true → m ≤ r
+      by_open : (o f : Option ℕ) → lesser_of o f ≡ Some m → FindsListed (serves_at s h q n) pieces (length pieces) o
+          → IfSome o (λ p. (i : ℕ) → i < length pieces → serves_at s h q n (at pieces i) ≡ true → p ≤ at pieces i)
+          → (listed : (i : ℕ) × (i < length pieces) × (at pieces i ≡ r)) → serves_at s h q n (at pieces listed.0) ≡ true → m ≤ r
       by_open None f lesser opens first listed shown = absurd (false≢true (sym (opens listed.0 listed.1) ∙ shown))
       by_open (Some p) None lesser opens first listed shown =
           let low = first listed.0 listed.1 shown in
@@ -377,7 +391,7 @@ module _ (s : Setting) (h : History) (q n : ℕ) (pieces : List ℕ) (legal : Is
 
   -- the lesser of both gives
   pub lesser_gives : (shown_one fresh : Option ℕ) (m : ℕ) → lesser_of shown_one fresh ≡ Some m →
-      FindsListed (offers_at s h q n) pieces (length pieces) shown_one
+      FindsListed (serves_at s h q n) pieces (length pieces) shown_one
       → FindsLeast (is_candidate_at s h q n) (λ r. r) 0 (piece_count s.torrent) fresh → IfSome fresh (λ p. p < piece_count s.torrent)
       → Gives s h q n m
   lesser_gives shown_one fresh m lesser opens begins within = by_both shown_one fresh lesser opens begins within where
@@ -387,14 +401,14 @@ module _ (s : Setting) (h : History) (q n : ℕ) (pieces : List ℕ) (legal : Is
       value (Some x) = x
       value None = 0
 
-    from_open : (p : ℕ) → FindsListed (offers_at s h q n) pieces (length pieces) (Some p) → Gives s h q n p
+    from_open : (p : ℕ) → FindsListed (serves_at s h q n) pieces (length pieces) (Some p) → Gives s h q n p
     from_open p found =
         let i = found.1.0 in
         let lp = subst (λ (r : ℕ). r < piece_count s.torrent) found.1.2 (open_within s h pieces lists i found.1.1) in
         let stage = subst (λ (r : ℕ). stage_of_row (piece_of s h r) ≡ Open) found.1.2 (listed_open s h pieces lists i found.1.1) in
         open_gives s h q n p layout is lp stage found.0
 
-    by_both : (o f : Option ℕ) → lesser_of o f ≡ Some m → FindsListed (offers_at s h q n) pieces (length pieces) o
+    by_both : (o f : Option ℕ) → lesser_of o f ≡ Some m → FindsListed (serves_at s h q n) pieces (length pieces) o
         → FindsLeast (is_candidate_at s h q n) (λ r. r) 0 (piece_count s.torrent) f → IfSome f (λ p. p < piece_count s.torrent) → Gives s h q n m
     by_both None None lesser opens begins within = absurd (cc lesser)
     by_both (Some p) None lesser opens begins within = subst (Gives s h q n) (number p m lesser) (from_open p opens)
@@ -409,8 +423,8 @@ module _ (s : Setting) (h : History) (q n : ℕ) (pieces : List ℕ) (legal : Is
 
   -- the block of it that was found rises
   pub rises_at : (shown_one fresh : Option ℕ) (m : ℕ) (found : Option Block) → NoneAbove s h q n → n ≤ reach h q → lesser_of shown_one fresh ≡ Some m
-      → FindsListed (offers_at s h q n) pieces (length pieces) shown_one
-      → IfSome shown_one (λ p. (i : ℕ) → i < length pieces → offers_at s h q n (at pieces i) ≡ true → p ≤ at pieces i)
+      → FindsListed (serves_at s h q n) pieces (length pieces) shown_one
+      → IfSome shown_one (λ p. (i : ℕ) → i < length pieces → serves_at s h q n (at pieces i) ≡ true → p ≤ at pieces i)
       → FindsLeast (is_candidate_at s h q n) (λ r. r) 0 (piece_count s.torrent) fresh → IfSome fresh (λ p. p < piece_count s.torrent)
       → FindsOf s.torrent m (is_left s h q) found
       → (b : Block) × (found ≡ Some b) × (is_block s.torrent b ≡ true) × (rises s h q b ≡ true)
@@ -443,7 +457,7 @@ module _ (s : Setting) (h : History) (q n : ℕ) (pieces : List ℕ) (legal : Is
       )
 
   -- and where there is neither nothing of the level is to be asked
-  pub rises_none : (shown_one fresh : Option ℕ) → lesser_of shown_one fresh ≡ None → FindsListed (offers_at s h q n) pieces (length pieces) shown_one
+  pub rises_none : (shown_one fresh : Option ℕ) → lesser_of shown_one fresh ≡ None → FindsListed (serves_at s h q n) pieces (length pieces) shown_one
       → FindsLeast (is_candidate_at s h q n) (λ r. r) 0 (piece_count s.torrent) fresh → NoneAt s h q n
   rises_none None None lesser opens begins =
       none_at s h q n legal (goes_on_none s h q n pieces legal lists opens) (λ p lp. begins p (omega arith) lp)

@@ -25,6 +25,7 @@ pub mod Leading
 pub mod Learning
 pub mod Levelled
 pub mod Overdue
+pub mod Sharing
 pub mod PeerSteps
 pub mod Picking
 pub mod PieceSteps

@@ -24,6 +24,7 @@ use Rattle.bt_picker.proofs.Rarest.{at_level}
 use Rattle.bt_picker.proofs.Rounds.{later_place, order_least}
 use Rattle.bt_picker.proofs.Scans.{first_in_piece}
 use Rattle.bt_picker.proofs.Stages.{candidate_at}
+use Rattle.bt_history.specs.Pieces.{is_free_for}
 
 -- ---- a block that comes before no other
 
@@ -121,7 +122,7 @@ module _ (s : Setting) (h : History) (q n : ℕ) (above : NoneAbove s h q n) whe
       let parts = and_parts (tops s h q c) _ too in
       let rest = and_parts (unbegun s h k) _ parts.1 in
       let usage = top_usable s h q c parts.0 in
-      let parts_of = usable_parts (unasked s h c) (wanted s h k) (gives h q k) (not (overdue h q c)) usage in
+      let parts_of = usable_parts (unasked s h c) (wanted s h k) (gives h q k) (not (overdue h q c)) (is_free_for s h q k) usage in
       let unspent = left_unspent s h q k i li parts_of.0 (not-true (overdue h q c) parts_of.3) in
       let shown = (and_parts (shows h q k) (nat_le (level h k) (reach h q)) parts_of.2).0 in
       let low = usable_below s h q n above k lk (any_found (block_count s.torrent k) (λ j. usable s h q (block s.torrent k j)) i li usage) in
@@ -181,7 +182,7 @@ rises_first s h q word b inside up least = first_from s h word (rises s h q) b u
     let back = leb-true p b.piece (implied (tops s h q b) _ (each_at s (λ d. not (tops s h q d) || nat_le p d.piece) b other.1 inside) own.0) in
     let same : p ≡ b.piece = omega (arith, forth, back) in
     let equal : turn s h word p ≡ turn s h word b.piece = ap (turn s h word) same in
-    let parts = usable_parts (unasked s h c) (wanted s h p) (gives h q p) (not (overdue h q c)) usage in
+    let parts = usable_parts (unasked s h c) (wanted s h p) (gives h q p) (not (overdue h q c)) (is_free_for s h q p) usage in
     let spot = least k (subst (λ (r : ℕ). k < block_count s.torrent r) same lk)
     (subst (λ (r : ℕ). is_left s h q (block s.torrent r k) ≡ true) same
     (and_from (unasked s h c) (not (overdue h q c)) parts.0 parts.3)) in

@@ -12,7 +12,7 @@ ghost use Rattle.bt_history.specs.Next.{continues, doubles, is_rarest, is_strict
 ghost use Rattle.bt_tables.specs.Orders.{at};
 ghost use Rattle.bt_tables.specs.Risings.{Rises};
 ghost use Rattle.bt_picker.specs.Search.{FindsLeast, FindsListed, FindsRarest, Finds, FindsOf, IsLevel, IsPickedBy, IsRuling, LacksNone};
-ghost use Rattle.bt_picker.specs.Search.{MayAsk, NoneAbove, NoneAt, NoneBeforeIn, goes_on, lesser_of, order_of, is_left, offers_at, resumes_at, resuming_order};
+ghost use Rattle.bt_picker.specs.Search.{MayAsk, NoneAbove, NoneAt, NoneBeforeIn, goes_on, lesser_of, order_of, is_left, serves_at, resumes_at, resuming_order};
 
 use crate::position::Position;
 use crate::ruling::Ruling;
@@ -32,19 +32,19 @@ impl<'a> Position<'a> {
         self.attest();
         let pieces = self.open_pieces();
         if self.most_open() == 0 {
-            self.least_offered(worker, level, pieces)
+            self.least_served(worker, level, pieces)
         } else {
-            self.rarest_offered(worker, level, pieces)
+            self.rarest_served(worker, level, pieces)
         }
     }
 
-    /// Of these pieces that have this level and that the peer offers the least of those that fewest peers show: they rise, so of several it is the
+    /// Of these pieces that have this level and that the peer serves the least of those that fewest peers show: they rise, so of several it is the
     /// first.
-    fn rarest_offered(&self, worker: u32, level: u8, pieces: &[u32]) -> Option<u32>
+    fn rarest_served(&self, worker: u32, level: u8, pieces: &[u32]) -> Option<u32>
         requires worker { worker < self.now.setting.workers }
         requires pieces { (i : ℕ) → i < length pieces.now → at pieces.now i < piece_count self.now.setting.torrent }
         requires rise { (i j : ℕ) → Rises pieces.now i j }
-        ensures { FindsRarest (offers_at self.now.setting self.now.history worker level) (order_of self.now.setting self.now.history true 0)
+        ensures { FindsRarest (serves_at self.now.setting self.now.history worker level) (order_of self.now.setting self.now.history true 0)
             pieces.now (length pieces.now) result }
     {
         let mut rarest = None;
@@ -54,7 +54,7 @@ impl<'a> Position<'a> {
             if rarest.is_some() && fewest <= shown_by {
                 continue;
             }
-            if self.offers_at(worker, level, *piece) {
+            if self.serves_at(worker, level, *piece) {
                 rarest = Some(*piece);
                 fewest = shown_by;
             }
@@ -142,31 +142,34 @@ impl<'a> Position<'a> {
         }
     }
 
-    /// The least of these pieces that has this level and that the peer offers: they rise, so it is the first.
-    fn least_offered(&self, worker: u32, level: u8, pieces: &[u32]) -> Option<u32>
+    /// The least of these pieces that has this level and that the peer serves: they rise, so it is the first.
+    fn least_served(&self, worker: u32, level: u8, pieces: &[u32]) -> Option<u32>
         requires worker { worker < self.now.setting.workers }
         requires pieces { (i : ℕ) → i < length pieces.now → at pieces.now i < piece_count self.now.setting.torrent }
         requires rise { (i j : ℕ) → Rises pieces.now i j }
-        ensures listed { FindsListed (offers_at self.now.setting self.now.history worker level) pieces.now (length pieces.now) result }
+        ensures listed { FindsListed (serves_at self.now.setting self.now.history worker level) pieces.now (length pieces.now) result }
         ensures least { IfSome result (λ p.
-            (i : ℕ) → i < length pieces.now → IsTrue (offers_at self.now.setting self.now.history worker level (at pieces.now i)) → p ≤ at pieces.now i) }
+            (i : ℕ) → i < length pieces.now → IsTrue (serves_at self.now.setting self.now.history worker level (at pieces.now i)) → p ≤ at pieces.now i) }
     {
         for piece in pieces {
-            if self.offers_at(worker, level, *piece) {
+            if self.serves_at(worker, level, *piece) {
                 return Some(*piece); // the least
             }
         }
         None
     }
 
-    /// Whether the piece has this level and the peer offers it.
+    /// Whether the piece has this level, and the peer offers it and may take part in it.
     #[inline(always)]
-    fn offers_at(&self, worker: u32, level: u8, piece: u32) -> bool
+    fn serves_at(&self, worker: u32, level: u8, piece: u32) -> bool
         requires worker { worker < self.now.setting.workers }
         requires piece { piece < piece_count self.now.setting.torrent }
-        ensures { result ≡ offers_at self.now.setting self.now.history worker level piece }
+        ensures { result ≡ serves_at self.now.setting self.now.history worker level piece }
     {
-        self.shows(worker, piece) && self.level(piece) == level && !self.is_spent(worker, piece)
+        self.shows(worker, piece)
+            && self.level(piece) == level
+            && !self.is_spent(worker, piece)
+            && self.is_free_for(worker, piece)
     }
 
     /// How many pieces are had.
@@ -219,7 +222,7 @@ impl<'a> Position<'a> {
         ensures none { IfNone result (NoneAt self.now.setting self.now.history worker level) }
     {
         self.attest();
-        let open = self.least_offered(worker, level, self.open_pieces());
+        let open = self.least_served(worker, level, self.open_pieces());
         match lesser(open, self.least_candidate(worker, level)) {
             Some(piece) => self.left_in(worker, piece),
             None => None,

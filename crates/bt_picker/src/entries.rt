@@ -84,6 +84,7 @@ fn put(tables: &mut Tables, past: &Past, worker: u32, told: &Told<'_>, reply: Re
         Told::InOrderFrom(level) => tables.put_order(*level),
         Told::Lack(piece) => tables.put_lack(worker, *piece),
         Told::Late { piece, begin } => tables.put_late(worker, *piece, *begin),
+        Told::Alone(alone) => tables.put_alone(worker, *alone),
     }
 }
 

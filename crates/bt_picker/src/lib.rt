@@ -17,6 +17,7 @@ mod filed;
 mod finished;
 mod jobs;
 mod keeper;
+mod owning;
 mod past;
 mod picked;
 mod picker;

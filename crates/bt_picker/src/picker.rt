@@ -10,7 +10,7 @@ ghost use Rattle.bt_history.specs.History.{stores};
 ghost use Rattle.bt_history.specs.Legal.{IsLegal};
 ghost use Rattle.bt_history.specs.Picks.{ArePicked};
 ghost use Rattle.bt_history.specs.PickRules.{rule_of};
-ghost use Rattle.bt_history.specs.Peers.{outstanding, reach};
+ghost use Rattle.bt_history.specs.Peers.{alone, outstanding, reach};
 ghost use Rattle.bt_history.specs.Pieces.{availability, content, had, in_order, level, order_from, sender, wanted};
 ghost use Rattle.bt_picker.specs.Search.{IsLevel};
 ghost use Rattle.bt_history.specs.Setting.{AreRules, setting_of};
@@ -214,6 +214,14 @@ impl Picker {
         ensures { result ≡ reach self.now.history worker }
     {
         self.position().reach(worker)
+    }
+
+    /// Whether the worker's peer works alone.
+    pub fn is_alone(&self, worker: u32) -> bool
+        requires { worker < self.now.setting.workers }
+        ensures { result ≡ alone self.now.history worker }
+    {
+        self.position().is_alone(worker)
     }
 
     /// The rule by which block `index` of the piece was requested, right after the answer that requests it: for a log, or a user who asks why.

@@ -63,10 +63,12 @@ pub enum Told<'a> {
         piece: u32,
         begin: u32,
     },
+    /// From now on the peer works alone, or like the others again.
+    Alone(bool),
 }
 
 impl<'a> Told<'a> {
-    /// Whether the call frees blocks or changes what is wanted.
+    /// Whether the call frees blocks or pieces, or changes what is wanted.
     #[inline(always)]
     pub fn unsettles(&self) -> bool
         ensures { result ≡ unsettles (action_told self.now) }
@@ -80,7 +82,8 @@ impl<'a> Told<'a> {
             | Told::Level { .. }
             | Told::Levels(_)
             | Told::Lack(_)
-            | Told::Late { .. } => true,
+            | Told::Late { .. }
+            | Told::Alone(_) => true,
             _ => false,
         }
     }
@@ -135,6 +138,7 @@ pub fn lend(call: &Call) -> Lent<'_>
             piece: *piece,
             begin: *begin,
         },
+        Call::Alone(alone) => Told::Alone(*alone),
     };
     Lent::Told(told)
 }

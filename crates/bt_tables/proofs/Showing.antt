@@ -75,42 +75,70 @@ pub worker_within : (rows : List Dealings) (shows : List (List Bool)) (peers : L
     → length shows ≡ length rows → w < length peers → w < length rows
 worker_within rows shows peers w is len lw = omega (arith, lw, len, ap length is, length_showing rows shows len)
 
--- peers of which one that was late with nothing isn't late now, either
-pub peers_kept : (rows : List Dealings) (shows after : List (List Bool)) (delayed : Bool) (w : ℕ) (row now : Dealings)
-    → ArePeers rows shows delayed → length after ≡ length shows → w < length rows → row ≡ get_or rows w row
-    → (row.overdue ≡ [] → now.overdue ≡ []) → ArePeers (set rows w now) after delayed
-peers_kept rows shows after delayed w row now are len lw read stays = record {
+-- what each row tells, and the row that takes the place of one of them, each of the new rows tells
+each_kept : {A : Type 0} (f : Dealings → A) (value : A) (rows : List Dealings) (w : ℕ) (row now : Dealings) → w < length rows → row ≡ get_or rows w row
+    → ((v : ℕ) (d : Dealings) → v < length rows → f (get_or rows v d) ≡ value) → (f row ≡ value → f now ≡ value)
+    → (v : ℕ) (d : Dealings) → v < length (set rows w now) → f (get_or (set rows w now) v d) ≡ value
+each_kept f value rows w row now lw read each stays v d lv = ⊎_elim
+    (λ (here : v ≡ w).
+    ap (λ (k : ℕ). f (get_or (set rows w now) k d)) here
+    ∙ (ap f (get_or-set_same rows w now d lw) ∙ stays (ap f read ∙ each w row lw)))
+    (λ (apart : v ≡ w → ⊥). ap f (get_or-set_other rows w v now d apart) ∙ each v d (omega (arith, lv, length-set rows w now)))
+    (cases_eq v w)
+
+-- peers of which one that was late with nothing isn't late now, either, nor does one work alone that didn't
+pub peers_kept : (rows : List Dealings) (shows after : List (List Bool)) (delayed apart : Bool) (w : ℕ) (row now : Dealings)
+    → ArePeers rows shows delayed apart → length after ≡ length shows → w < length rows → row ≡ get_or rows w row
+    → (row.overdue ≡ [] → now.overdue ≡ []) → (row.alone ≡ false → now.alone ≡ false) → ArePeers (set rows w now) after delayed apart
+peers_kept rows shows after delayed apart w row now are len lw read prompt_on together_on = record {
   each = len ∙ (are.each ∙ sym (length-set rows w now));
-  prompt = λ never v d lv. ⊎_elim
-      (λ (here : v ≡ w).
-      ap (λ (k : ℕ). (get_or (set rows w now) k d).overdue) here
-      ∙ (ap (λ (r : Dealings). r.overdue) (get_or-set_same rows w now d lw)
-      ∙ stays (ap (λ (r : Dealings). r.overdue) read ∙ are.prompt never w row lw)))
-      (λ (apart : v ≡ w → ⊥).
-      ap (λ (r : Dealings). r.overdue) (get_or-set_other rows w v now d apart)
-      ∙ are.prompt never v d (omega (arith, lv, length-set rows w now)))
-      (cases_eq v w);
+  prompt = λ never. each_kept (λ r. r.overdue) [] rows w row now lw read (are.prompt never) prompt_on;
+  together = λ never. each_kept (λ r. r.alone) false rows w row now lw read (are.together never) together_on;
 }
 
--- and peers that one was told to be late of
-pub peers_delayed : (rows : List Dealings) (shows : List (List Bool)) (delayed : Bool) (w : ℕ) (now : Dealings) → ArePeers rows shows delayed
-    → ArePeers (set rows w now) shows true
-peers_delayed rows shows delayed w now are = record {
+-- peers that one was told to be late of
+pub peers_delayed : (rows : List Dealings) (shows : List (List Bool)) (delayed apart : Bool) (w : ℕ) (row now : Dealings)
+    → ArePeers rows shows delayed apart → w < length rows → row ≡ get_or rows w row → (row.alone ≡ false → now.alone ≡ false)
+    → ArePeers (set rows w now) shows true apart
+peers_delayed rows shows delayed apart w row now are lw read together_on = record {
   each = are.each ∙ sym (length-set rows w now);
   prompt = λ never. absurd (true≢false never);
+  together = λ never. each_kept (λ r. r.alone) false rows w row now lw read (are.together never) together_on;
+}
+
+-- and peers that one was told to work alone of
+pub peers_parted : (rows : List Dealings) (shows : List (List Bool)) (delayed apart : Bool) (w : ℕ) (row now : Dealings)
+    → ArePeers rows shows delayed apart → w < length rows → row ≡ get_or rows w row → (row.overdue ≡ [] → now.overdue ≡ [])
+    → ArePeers (set rows w now) shows delayed true
+peers_parted rows shows delayed apart w row now are lw read prompt_on = record {
+  each = are.each ∙ sym (length-set rows w now);
+  prompt = λ never. each_kept (λ r. r.overdue) [] rows w row now lw read (are.prompt never) prompt_on;
+  together = λ never. absurd (true≢false never);
 }
 
 -- the row of a peer, where nobody was told to be late
-pub row_prompt : (rows : List Dealings) (shows : List (List Bool)) (delayed : Bool) (w : ℕ) → ArePeers rows shows delayed → delayed ≡ false
-    → w < length rows → (peer_row (showing_rows rows shows) w).overdue ≡ []
-row_prompt rows shows delayed w are never lw =
+pub row_prompt : (rows : List Dealings) (shows : List (List Bool)) (delayed apart : Bool) (w : ℕ) → ArePeers rows shows delayed apart
+    → delayed ≡ false → w < length rows → (peer_row (showing_rows rows shows) w).overdue ≡ []
+row_prompt rows shows delayed apart w are never lw =
     ap (λ (row : PeerState). row.overdue) (showing_at rows shows w (dealings (fresh_peer 0 0)) (fresh_peer 0 0) are.each lw)
     ∙ are.prompt never w (dealings (fresh_peer 0 0)) lw
+
+-- and where nobody was told to work alone
+pub row_together : (rows : List Dealings) (shows : List (List Bool)) (delayed apart : Bool) (w : ℕ) → ArePeers rows shows delayed apart
+    → apart ≡ false → w < length rows → (peer_row (showing_rows rows shows) w).alone ≡ false
+row_together rows shows delayed apart w are never lw =
+    ap (λ (row : PeerState). row.alone) (showing_at rows shows w (dealings (fresh_peer 0 0)) (fresh_peer 0 0) are.each lw)
+    ∙ are.together never w (dealings (fresh_peer 0 0)) lw
 
 -- what comes to pass with a peer makes it late with nothing
 pub noted_prompt : (dealing : Dealing) (row : Dealings) → row.overdue ≡ [] → (noted dealing row).overdue ≡ []
 noted_prompt Choke row none = refl
 noted_prompt dealing row none = none
+
+-- and leaves whether it works alone
+pub noted_together : (dealing : Dealing) (row : Dealings) → (noted dealing row).alone ≡ row.alone
+noted_together Heard row = refl
+noted_together dealing row = refl
 
 -- what comes to pass with a peer leaves what it shows
 pub noted_shown : (dealing : Dealing) (flags : List Bool) (row : Dealings) → showing flags (noted dealing row) ≡ noted_row dealing (showing flags row)

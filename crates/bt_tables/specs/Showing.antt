@@ -16,6 +16,7 @@ pub record Dealings : Type 0 where
   pub late : Bool
   pub told : Option ℕ
   pub reach : ℕ
+  pub alone : Bool
   pub is_open : Bool
   pub asked : List Block
   pub overdue : List Block
@@ -29,6 +30,7 @@ dealings row = record {
   late = row.late;
   told = row.told;
   reach = row.reach;
+  alone = row.alone;
   is_open = row.is_open;
   asked = row.asked;
   overdue = row.overdue;
@@ -52,6 +54,7 @@ showing flags row = record {
   late = row.late;
   told = row.told;
   reach = row.reach;
+  alone = row.alone;
   is_open = row.is_open;
   shows = flags;
   asked = row.asked;
@@ -69,10 +72,15 @@ showing_rows (row ∷ rows) (flags ∷ shows) = showing flags row ∷ showing_ro
 abbrev pub NoneLate : List Dealings → Type 0
 NoneLate rows = (worker : ℕ) (row : Dealings) → worker < length rows → (slice_index_or rows worker row).overdue ≡ []
 
--- what is kept of all peers: the pieces that each shows, and no peer is late unless one was told to be
-pub record ArePeers (rows : List Dealings) (shows : List (List Bool)) (delayed : Bool) : Type 0 where
+-- no peer works alone
+abbrev pub NoneAlone : List Dealings → Type 0
+NoneAlone rows = (worker : ℕ) (row : Dealings) → worker < length rows → (slice_index_or rows worker row).alone ≡ false
+
+-- what is kept of all peers: the pieces that each shows, and no peer is late, or works alone, unless one was told to
+pub record ArePeers (rows : List Dealings) (shows : List (List Bool)) (delayed apart : Bool) : Type 0 where
   pub each : length shows ≡ length rows
   pub prompt : delayed ≡ false → NoneLate rows
+  pub together : apart ≡ false → NoneAlone rows
 
 -- the pieces that the worker's peer shows
 abbrev pub flags_at : List (List Bool) → ℕ → List Bool

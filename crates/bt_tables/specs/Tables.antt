@@ -31,6 +31,7 @@ pub record PeerState : Type 0 where
   pub late : Bool
   pub told : Option ℕ
   pub reach : ℕ
+  pub alone : Bool
   pub is_open : Bool
   pub shows : List Bool
   pub asked : List Block
@@ -45,6 +46,7 @@ fresh_peer room pieces = record {
   late = false;
   told = None;
   reach = MOST_LEVEL;
+  alone = false;
   is_open = false;
   shows = replicate pieces false;
   asked = [];
@@ -59,6 +61,7 @@ join_row row = record row {
   late = false;
   told = None;
   reach = MOST_LEVEL;
+  alone = false;
   is_open = false;
   shows = replicate (length row.shows) false;
   asked = [];
@@ -98,6 +101,10 @@ depth_row n row = record row { told = Some n }
 -- after Reach
 abbrev pub reach_row : ℕ → PeerState → PeerState
 reach_row n row = record row { reach = n }
+
+-- after Alone
+abbrev pub alone_row : Bool → PeerState → PeerState
+alone_row alone row = record row { alone = alone }
 
 -- after an arrival
 abbrev pub late_row : PeerState → PeerState

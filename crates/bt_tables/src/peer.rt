@@ -47,6 +47,7 @@ pub struct Peer {
     late: bool,
     told: Option<u32>,
     reach: u8,
+    alone: bool,
     unchoked: bool,
     asked: Line,
     due: Vec<Block>,
@@ -60,6 +61,7 @@ impl Drop for Peer {
             late: _,
             told: _,
             reach: _,
+            alone: _,
             unchoked: _,
             asked: _asked,
             due: _due,
@@ -79,6 +81,7 @@ impl Model for Peer {
       late = p.late;
       told = p.told;
       reach = p.reach;
+      alone = p.alone;
       is_open = p.unchoked;
       asked = p.asked.asked;
       overdue = p.asked.overdue;
@@ -98,6 +101,7 @@ impl Peer {
             late: false,
             told: None,
             reach: MOST_LEVEL,
+            alone: false,
             unchoked: false,
             asked: Line::new(alloc, room)?,
             due: Vec::with_capacity(alloc, room as usize)?,
@@ -130,6 +134,14 @@ impl Peer {
         ensures { result ≡ self.now.reach }
     {
         self.reach
+    }
+
+    /// Whether the peer works alone.
+    #[inline(always)]
+    pub fn is_alone(&self) -> bool
+        ensures { result ≡ self.now.alone }
+    {
+        self.alone
     }
 
     pub fn is_open(&self) -> bool
@@ -190,12 +202,13 @@ impl Peer {
 
     /// The peer joins: what an earlier one told or was asked is gone.
     pub fn join(&mut self)
-        ensures { self.new ≡ record self.old { joined = true; late = false; told = None; reach = MOST_LEVEL; is_open = false; asked = []; overdue = []; due = [] } }
+        ensures { self.new ≡ record self.old { joined = true; late = false; told = None; reach = MOST_LEVEL; alone = false; is_open = false; asked = []; overdue = []; due = [] } }
     {
         self.joined = true;
         self.late = false;
         self.told = None;
         self.reach = MOST_LEVEL;
+        self.alone = false;
         self.reset();
     }
 
@@ -234,6 +247,13 @@ impl Peer {
             Dealing::Reach(level) => self.reach = level,
             Dealing::Cancelled(block) => self.cancel(block),
         }
+    }
+
+    /// From now on the peer works alone, or like the others again.
+    pub fn set_alone(&mut self, alone: bool)
+        ensures { self.new ≡ record self.old { alone = alone } }
+    {
+        self.alone = alone;
     }
 
     /// The peer has the piece no more: none of its blocks is asked of the peer.

@@ -5,7 +5,7 @@ ghost use Rattle.bt_meta.specs.WireBits.{FindsFirst};
 ghost use Rattle.bt_history.specs.Counting.{any_below, count_below, table};
 ghost use Rattle.bt_history.specs.Peers.{has_place};
 ghost use Rattle.bt_tables.specs.Showing.{dealings};
-ghost use Rattle.bt_tables.specs.Tables.{bits_row, delay_row, expects_at, is_late_at, noted_row, edit, fresh_peer, have_row, join_row, lack_row, leave_row};
+ghost use Rattle.bt_tables.specs.Tables.{alone_row, bits_row, delay_row, expects_at, is_late_at, noted_row, edit, fresh_peer, have_row, join_row, lack_row, leave_row};
 ghost use Rattle.bt_tables.specs.Tables.{HasShortLines, peer_row, request_row, without_block};
 
 use crate::peer::{Dealing, Peer};
@@ -16,10 +16,12 @@ use std::marker::Model;
 
 /// A row for each worker's peer, by the worker's number, and the pieces that each shows, which stand in a table of their own. Contracts
 /// see the rows with these pieces in them. Once a peer was told to be late, a stored block may be asked of peers that its cell doesn't count.
+/// Whether one was ever told to work alone is kept too, so that nobody looks for one before.
 pub struct Peers {
     rows: Vec<Peer>,
     shows: Shows,
     delayed: bool,
+    apart: bool,
 }
 
 /// The end of all rows is one call for whoever owns them.
@@ -29,6 +31,7 @@ impl Drop for Peers {
             rows: _rows,
             shows: _shows,
             delayed: _,
+            apart: _,
         } = self;
     }
 }
@@ -42,7 +45,7 @@ impl Model for Peers {
 
     ghost view = { λ p. showing_rows p.rows.items p.shows };
 
-    ghost invariant = { λ p. ArePeers p.rows.items p.shows p.delayed };
+    ghost invariant = { λ p. ArePeers p.rows.items p.shows p.delayed p.apart };
 }
 
 impl Peers {
@@ -54,6 +57,7 @@ impl Peers {
             rows: new_rows(alloc, workers, room)?,
             shows: Shows::new(alloc, workers, pieces)?,
             delayed: false,
+            apart: false,
         })
     }
 
@@ -171,6 +175,23 @@ impl Peers {
     {
         self.delayed = true;
         self.rows[worker as usize].delay(piece, begin);
+    }
+
+    /// From now on the peer works alone, or like the others again.
+    pub fn set_alone(&mut self, worker: u32, alone: bool)
+        requires { worker < length self.old }
+        ensures { self.new ≡ edit self.old worker (alone_row alone) }
+    {
+        self.apart = true;
+        self.rows[worker as usize].set_alone(alone);
+    }
+
+    /// Whether a peer may work alone: one was told to.
+    #[inline(always)]
+    pub fn may_have_alone(&self) -> bool
+        ensures { result ≡ false → (worker : ℕ) → worker < length self.now → (peer_row self.now worker).alone ≡ false }
+    {
+        self.apart
     }
 
     /// Whether a peer is late with the block that begins there.

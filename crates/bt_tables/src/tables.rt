@@ -16,7 +16,7 @@ ghost use Rattle.bt_history.specs.Counting.{any_below, table};
 ghost use Rattle.bt_tables.specs.Floors.{AsksRarest, FewOpen, IsFloor, NoneFresh, RequestTells, TellsFloor, is_fresh};
 ghost use Rattle.bt_tables.specs.Tables.{AreAskers, AreCounted, HasBlock, HasRoomFor, HasShortLines, bits_row, leave_row, TablesState, after_arrival};
 ghost use Rattle.bt_tables.specs.Tables.{after_check, after_next, announced, given_up, edit, failed_row, fresh_peer, fresh_piece, join_row};
-ghost use Rattle.bt_tables.specs.Tables.{choke_row, delayed, is_late_at, unexpected, lacked, noted_row, joint, levelled, ordered, peer_row, piece_row, released, relevelled, reshown};
+ghost use Rattle.bt_tables.specs.Tables.{alone_row, choke_row, delayed, is_late_at, unexpected, lacked, noted_row, joint, levelled, ordered, peer_row, piece_row, released, relevelled, reshown};
 ghost use Rattle.bt_tables.specs.Tables.{wanted_level, with_block, with_peer};
 ghost use Rattle.bt_history.specs.declared.rules.TheConstants.{MOST_LEVEL};
 ghost use Rattle.std.specs.Prelude.{nat_le};
@@ -153,6 +153,14 @@ impl Tables {
         ensures { result ≡ slice_index_or (peer_row self.now.peers worker).shows piece false }
     {
         self.peers.shows(worker, piece)
+    }
+
+    /// Whether a peer may work alone: one was told to.
+    #[inline(always)]
+    pub fn may_have_alone(&self) -> bool
+        ensures { result ≡ false → (worker : ℕ) → worker < length self.now.peers → (peer_row self.now.peers worker).alone ≡ false }
+    {
+        self.peers.may_have_alone()
     }
 
     /// Whether a peer is late with the block that begins there.
@@ -376,6 +384,14 @@ impl Tables {
         ensures { self.new ≡ with_peer self.old worker (noted_row dealing) }
     {
         self.peers.note(worker, dealing);
+    }
+
+    /// Alone: the worker's peer works alone from now on, or like the others again.
+    pub fn put_alone(&mut self, worker: u32, alone: bool)
+        requires { worker < length self.old.peers }
+        ensures { self.new ≡ with_peer self.old worker (alone_row alone) }
+    {
+        self.peers.set_alone(worker, alone);
     }
 
     /// Release: the block that begins there, which is asked of the peer, is asked of it no more.

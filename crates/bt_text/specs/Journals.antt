@@ -5,7 +5,7 @@ use Rattle.hex.specs.Hex.{encode_lower}
 use Rattle.bt_meta.specs.WireBits.{IsSpelled}
 use Rattle.bt_history.specs.declared.event.Action.{Action}
 use Rattle.bt_history.specs.declared.event.Action.TheVariants.{Join, Bits, Have, Choke, Unchoke, Next, Arrived, Settle, Leave, Want, Haves, Depth}
-use Rattle.bt_history.specs.declared.event.Action.TheVariants.{Release, Level, Levels, InOrder, Reach, InOrderFrom, Lack, Late}
+use Rattle.bt_history.specs.declared.event.Action.TheVariants.{Release, Level, Levels, InOrder, Reach, InOrderFrom, Lack, Late, Alone}
 use Rattle.bt_history.specs.declared.event.Event.{Event}
 use Rattle.bt_text.specs.Texts.{reply_text}
 
@@ -52,6 +52,8 @@ IsCallText (Reach n) text = text ≡ codes "reach " ++ decimal n
 IsCallText (InOrderFrom n) text = text ≡ codes "inorderfrom " ++ decimal n
 IsCallText (Lack p) text = text ≡ codes "lack " ++ decimal p
 IsCallText (Late p begin) text = text ≡ request_text (codes "late ") p begin
+IsCallText (Alone true) text = text ≡ codes "alone yes"
+IsCallText (Alone false) text = text ≡ codes "alone no"
 
 -- the line of an entry: the worker, the call and the reply
 pub record IsJournalLine (e : Event) (text : List ℕ) : Type 0 where

@@ -3,7 +3,8 @@ use Rattle.std.specs.Prelude.{ℕ, Bool, List, [], ◌∷◌, Option, Some, None
 use Rattle.std.specs.Str.{bytes_eq}
 use Rattle.bt_history.specs.Entries.{action_of}
 use Rattle.bt_history.specs.declared.event.Action.{Action}
-use Rattle.bt_history.specs.declared.event.Action.TheVariants.{Join, Choke, Unchoke, Leave, Have, Next, Depth, Levels, InOrder, Reach, InOrderFrom, Lack, Release, Late, Level, Arrived}
+use Rattle.bt_history.specs.declared.event.Action.TheVariants.{Join, Choke, Unchoke, Leave, Have, Next, Depth, Levels, InOrder, Reach, InOrderFrom, Lack, Alone}
+use Rattle.bt_history.specs.declared.event.Action.TheVariants.{Release, Late, Level, Arrived}
 use Rattle.bt_text.specs.declared.script.line.Command.{Command}
 use Rattle.bt_text.specs.declared.script.line.Command.TheVariants as commands
 use Rattle.bt_text.specs.declared.script.line.Line.{Line}
@@ -56,7 +57,8 @@ short_command word argument =
     else (if bytes_eq word (codes "reach") then option_map (λ n. makes (Reach n)) (byte_in argument)
     else (if bytes_eq word (codes "inorderfrom") then option_map (λ n. makes (InOrderFrom n)) (byte_in argument)
     else (if bytes_eq word (codes "lack") then option_map (λ piece. makes (Lack piece)) (small_number_in argument)
-    else None)))))))))))
+    else (if bytes_eq word (codes "alone") then option_map (λ alone. makes (Alone alone)) (yes_or_no_in argument)
+    else None))))))))))))
 
 -- what is given up: the piece, and where the block begins in it
 abbrev pub release_of : Option ℕ → Option ℕ → Option Order

@@ -72,6 +72,8 @@ fn print_call<O: Sink>(out: &mut O, call: &Call) -> Result<(), DeviceFault>
         Call::InOrderFrom(level) => print_numbered(out, "inorderfrom ", u64::from(*level)),
         Call::Lack(piece) => print_numbered(out, "lack ", u64::from(*piece)),
         Call::Late { piece, begin } => print_request(out, "late ", *piece, *begin),
+        Call::Alone(true) => print(out, "alone yes"),
+        Call::Alone(false) => print(out, "alone no"),
     }
 }
 

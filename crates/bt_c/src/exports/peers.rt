@@ -1,5 +1,5 @@
 //! What a worker tells of its peer, and asks.
-ghost use Rattle.std.specs.Prelude.{◌≡◌, min};
+ghost use Rattle.std.specs.Prelude.{◌≡◌, ◌==◌, min, not};
 ghost use Rattle.bt_history.specs.declared.event.Action.TheVariants as actions;
 ghost use Rattle.bt_picker.specs.Told.{action_told};
 ghost use Rattle.bt_c.specs.Behind.{state};
@@ -215,6 +215,22 @@ pub extern "C" fn piecepick_reach(
         call(alloc, picker, worker, Told::Reach(level_of(level))),
         answer,
     )
+}
+
+/// From now on the peer works alone, or, where `yes` is 0, like the others again. One that works alone begins pieces, and goes on with those that
+/// nobody else has to do with. Others are asked for none of the blocks of its own pieces until endgame.
+#[unsafe(no_mangle)]
+pub extern "C" fn piecepick_alone(
+    alloc: Global,
+    picker: &mut PickerHandle,
+    worker: u32,
+    yes: u32,
+    answer: &mut Answer,
+) -> u32
+    ensures { Tells (λ h e o. Makes h e worker (actions.Alone (not (yes == 0))) o)
+        picker.old.held picker.new.held result answer.new }
+{
+    tell(call(alloc, picker, worker, Told::Alone(yes != 0)), answer)
 }
 
 /// What to say to the peer next. The word, a random number, settles what the rules leave to chance.

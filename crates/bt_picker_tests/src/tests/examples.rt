@@ -5,7 +5,7 @@
 //! is asked that is asked for one again, and 1 where endgame waits for what is shown alone, else 0. Then come its lines, and behind `but`, each
 //! behind the number of lines that come before, those that mustn't come. Between two examples stands an empty line.
 
-pub const COUNT: u32 = 106;
+pub const COUNT: u32 = 114;
 
 pub const EXAMPLES: &str = "\
 first request
@@ -1866,4 +1866,154 @@ but
 6 0 late 0 1 = quiet
 7 0 late 9 0 = refused NoSuchPiece
 11 1 late 0 0 = quiet
-15 0 late 0 0 = quiet";
+15 0 late 0 0 = quiet
+
+alone begins its own
+32768 65536 abc abc
+2 5 1 1024 64 0 4096 0
+0 join = joined
+0 bits c0 = noted yes
+0 unchoke = quiet
+1 join = joined
+1 bits c0 = noted yes
+1 unchoke = quiet
+0 next 0 = request 0 0 16384
+1 alone yes = quiet
+1 next 0 = request 1 0 16384
+0 next 0 = request 0 16384 16384
+0 next 0 = idle
+1 next 0 = request 1 16384 16384
+0 next 0 = request 1 0 16384
+but
+8 1 next 0 = request 0 16384 16384
+10 0 next 0 = request 1 16384 16384
+12 0 next 0 = idle
+
+alone told off
+32768 65536 abc abc
+2 5 1 1024 64 0 4096 0
+0 join = joined
+0 bits c0 = noted yes
+0 unchoke = quiet
+1 join = joined
+1 bits c0 = noted yes
+1 unchoke = quiet
+1 alone yes = quiet
+1 next 0 = request 0 0 16384
+0 next 0 = request 1 0 16384
+0 next 0 = request 1 16384 16384
+0 next 0 = idle
+1 alone no = quiet
+0 next 0 = request 0 16384 16384
+but
+8 0 next 0 = request 0 16384 16384
+12 0 next 0 = idle
+
+choke shares its pieces
+32768 65536 abc abc
+2 5 1 1024 64 0 4096 0
+0 join = joined
+0 bits c0 = noted yes
+0 unchoke = quiet
+1 join = joined
+1 bits c0 = noted yes
+1 unchoke = quiet
+1 alone yes = quiet
+1 next 0 = request 0 0 16384
+1 block 0 0 whole = stored
+0 next 0 = request 1 0 16384
+0 next 0 = request 1 16384 16384
+0 next 0 = idle
+1 choke = quiet
+0 next 0 = request 0 16384 16384
+but
+11 0 next 0 = request 0 16384 16384
+13 0 next 0 = idle
+
+another brings a block of its own
+32768 65536 abc abc
+2 5 1 1024 64 0 4096 0
+0 join = joined
+0 bits c0 = noted yes
+0 unchoke = quiet
+1 join = joined
+1 bits c0 = noted yes
+1 unchoke = quiet
+0 next 0 = request 0 0 16384
+0 release 0 0 = quiet
+1 alone yes = quiet
+1 next 0 = request 0 0 16384
+0 block 0 0 whole = stored
+1 next 0 = cancel 0 0 16384
+1 next 0 = request 1 0 16384
+0 next 0 = request 0 16384 16384
+but
+12 1 next 0 = request 0 16384 16384
+13 0 next 0 = idle
+
+alone goes with its peer
+32768 65536 abc abc
+2 5 1 1024 64 0 4096 0
+0 join = joined
+0 alone yes = quiet
+0 leave = quiet
+0 join = joined
+0 bits c0 = noted yes
+0 unchoke = quiet
+1 join = joined
+1 bits c0 = noted yes
+1 unchoke = quiet
+1 next 0 = request 0 0 16384
+0 next 0 = request 0 16384 16384
+but
+10 0 next 0 = request 1 0 16384
+
+alone in order
+32768 65536 abc abc
+2 5 1 1024 64 0 4096 0
+0 inorder yes = quiet
+0 join = joined
+0 bits c0 = noted yes
+0 unchoke = quiet
+1 join = joined
+1 bits c0 = noted yes
+1 unchoke = quiet
+1 alone yes = quiet
+1 next 0 = request 0 0 16384
+0 next 0 = request 1 0 16384
+1 next 0 = request 0 16384 16384
+but
+9 0 next 0 = request 0 16384 16384
+
+two work alone
+32768 65536 abc abc
+2 5 1 1024 64 0 4096 0
+0 join = joined
+0 bits c0 = noted yes
+0 unchoke = quiet
+1 join = joined
+1 bits c0 = noted yes
+1 unchoke = quiet
+0 alone yes = quiet
+1 alone yes = quiet
+0 next 0 = request 0 0 16384
+1 next 0 = request 1 0 16384
+0 next 0 = request 0 16384 16384
+0 next 0 = idle
+1 next 0 = request 1 16384 16384
+0 next 0 = request 1 0 16384
+but
+11 0 next 0 = request 1 16384 16384
+
+refusals of alone
+32768 65536 abc abc
+1 5 1 1024 64 0 4096 0
+0 alone yes = refused NotJoined
+0 join = joined
+0 alone yes = quiet
+0 alone yes = quiet
+0 alone no = quiet
+0 bits c0 = noted yes
+but
+0 0 alone yes = quiet
+5 0 bits c0 = refused LateBits";

@@ -100,7 +100,7 @@ fn any_block(rng: &mut Lcg64Xsh32) -> Block {
 
 /// What the peer sends or its worker tells next, given what is asked of it.
 fn from_wire(alloc: Global, rng: &mut Lcg64Xsh32, asked: &[Block]) -> Result<Call, Fail> {
-    match one_of(rng, 78) {
+    match one_of(rng, 80) {
         6..=10 => Ok(Call::Bits(any_flags(alloc, rng)?)),
         11 => Ok(Call::Bits(Bitfield::empty(alloc, 3)?)),
         36..=38 => Ok(Call::Haves(any_flags(alloc, rng)?)),
@@ -126,6 +126,7 @@ fn plain_call(rng: &mut Lcg64Xsh32, asked: &[Block], case: u32) -> Call {
         48..=49 => Call::Lack(one_of(rng, 5)),
         50..=52 => delay(first_asked(asked)),
         53 => delay(any_block(rng)),
+        54..=55 => Call::Alone(one_of(rng, 3) > 0),
         _ => Call::Next(rng.next_u64()),
     }
 }

@@ -147,6 +147,7 @@ fn plain_call(rt: &impl Abort, name: &str, words: &mut Split<'static, char>) -> 
             piece: next_number(rt, words),
             begin: next_number(rt, words),
         },
+        "alone" => Call::Alone(words.next() == Some("yes")),
         "level" => Call::Level {
             piece: next_number(rt, words),
             level: next_level(rt, words),

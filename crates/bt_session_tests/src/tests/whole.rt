@@ -41,6 +41,7 @@ fn word(call: &Call) -> &'static str {
         Call::InOrderFrom(_) => "inorderfrom",
         Call::Lack(_) => "lack",
         Call::Late { .. } => "late",
+        Call::Alone(_) => "alone",
     }
 }
 

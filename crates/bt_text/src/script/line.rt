@@ -106,6 +106,8 @@ fn short_command(alloc: Global, word: &[u8], argument: &[u8]) -> Result<Command,
         Ok(Command::Make(Call::InOrderFrom(byte(argument)?)))
     } else if is(word, "lack") {
         Ok(Command::Make(Call::Lack(small_number(argument)?)))
+    } else if is(word, "alone") {
+        Ok(Command::Make(Call::Alone(yes_or_no(argument)?)))
     } else {
         Err(LineFault::NotAllowed)
     }

@@ -1,12 +1,12 @@
 use Rattle.std.proofs.Common.{◌==◌, refl}
 use Rattle.bt_history.specs.declared.event.Action.TheVariants.{Lack}
-use Rattle.bt_history.specs.Peers.{due, dues, is_open, joined, reach, told_depth}
+use Rattle.bt_history.specs.Peers.{alone, due, dues, is_open, joined, reach, told_depth}
 use Rattle.bt_history.specs.Pieces.{had, kept, level, order_from, sender}
 use Rattle.bt_history.proofs.TakingBack.{asked_lacked, late_lacked, line_lacked, shows_lacked, stays}
 use Rattle.bt_history.proofs.laws.lack_takes_one.Goals as goal
 
 pub returns : goal.returns
-unfolding due dues had is_open joined kept level order_from reach sender told_depth
+unfolding alone due dues had is_open joined kept level order_from reach sender told_depth
 returns c =
     let same = stays _ c.args.other (c.args.worker == c.args.other) (Lack c.args.piece) refl in record {
       shows = shows_lacked _ c.args.worker c.args.piece c.args.other c.args.interests c.args.block.piece;
@@ -18,6 +18,7 @@ returns c =
       depth = same.depth;
       joined = same.joined;
       opened = same.opened;
+      alone = same.alone;
       reach = same.reach;
       held = refl;
       bytes = refl;

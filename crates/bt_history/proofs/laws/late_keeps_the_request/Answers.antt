@@ -1,12 +1,12 @@
 use Rattle.std.proofs.Common.{◌==◌, refl}
 use Rattle.bt_history.specs.declared.event.Action.TheVariants.{Late}
-use Rattle.bt_history.specs.Peers.{due, dues, is_open, joined, late, reach, shows, told_depth}
+use Rattle.bt_history.specs.Peers.{alone, due, dues, is_open, joined, late, reach, shows, told_depth}
 use Rattle.bt_history.specs.Pieces.{had, kept, level, order_from, sender}
 use Rattle.bt_history.proofs.TakingBack.{asked_delayed, late_on, line_delayed, overdue_delayed, shows_on, stays}
 use Rattle.bt_history.proofs.laws.late_keeps_the_request.Goals as goal
 
 pub returns : goal.returns
-unfolding due dues had is_open joined kept late level order_from reach sender shows told_depth
+unfolding alone due dues had is_open joined kept late level order_from reach sender shows told_depth
 returns c =
     let same = stays _ c.args.other (c.args.worker == c.args.other) (Late c.args.piece c.args.begin) refl in record {
       overdue = overdue_delayed _ c.args.worker c.args.piece c.args.begin c.args.other c.args.block;
@@ -19,6 +19,7 @@ returns c =
       depth = same.depth;
       joined = same.joined;
       opened = same.opened;
+      alone = same.alone;
       reach = same.reach;
       held = refl;
       bytes = refl;

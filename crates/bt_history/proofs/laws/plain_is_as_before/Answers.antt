@@ -15,4 +15,5 @@ returns c =
       levels = c.requires.levels;
       reaches = c.requires.reaches;
       delays = c.requires.delays;
+      alone = c.requires.alone;
     })

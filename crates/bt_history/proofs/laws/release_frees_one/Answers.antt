@@ -1,12 +1,12 @@
 use Rattle.std.proofs.Common.{◌==◌, refl}
 use Rattle.bt_history.specs.declared.event.Action.TheVariants.{Release}
-use Rattle.bt_history.specs.Peers.{due, dues, is_open, joined, late, reach, shows, told_depth}
+use Rattle.bt_history.specs.Peers.{alone, due, dues, is_open, joined, late, reach, shows, told_depth}
 use Rattle.bt_history.specs.Pieces.{had, kept, level, order_from, sender}
 use Rattle.bt_history.proofs.TakingBack.{asked_released, late_on, line_released, shows_on, stays}
 use Rattle.bt_history.proofs.laws.release_frees_one.Goals as goal
 
 pub returns : goal.returns
-unfolding due dues had is_open joined kept late level order_from reach sender shows told_depth
+unfolding alone due dues had is_open joined kept late level order_from reach sender shows told_depth
 returns c =
     let same = stays _ c.args.other (c.args.worker == c.args.other) (Release c.args.piece c.args.begin) refl in record {
       asked = asked_released _ c.args.worker c.args.piece c.args.begin c.args.other c.args.block;
@@ -18,6 +18,7 @@ returns c =
       depth = same.depth;
       joined = same.joined;
       opened = same.opened;
+      alone = same.alone;
       reach = same.reach;
       held = refl;
       bytes = refl;

@@ -148,6 +148,26 @@ pub const EXAMPLES: &[Example] = &[
             0 late 0 0 = refused 10",
     },
     Example {
+        name: "a peer that works alone, and then like the others",
+        torrent: "torrent 32768 65536 2 a9993e364706816aba3e25717850c26c9cd0d89d a9993e364706816aba3e25717850c26c9cd0d89d",
+        lines: "1 alone yes = refused 1\n\
+            0 join = joined\n\
+            0 bits c0 = noted yes\n\
+            0 unchoke = quiet\n\
+            1 join = joined\n\
+            1 alone yes = quiet\n\
+            1 bits c0 = noted yes\n\
+            1 unchoke = quiet\n\
+            1 next 0 = request 0 0 16384\n\
+            0 next 0 = request 1 0 16384\n\
+            0 next 0 = request 1 16384 16384\n\
+            0 next 0 = idle\n\
+            1 alone no = quiet\n\
+            0 next 0 = request 0 16384 16384\n\
+            1 leave = quiet\n\
+            1 alone no = refused 1",
+    },
+    Example {
         name: "a depth of one peer",
         torrent: "torrent 1000000 1000000 2 34aa973cd4c4daa4f61eeb2bdbad27316534016f",
         lines: "0 depth 2 = refused 1\n\

@@ -127,7 +127,7 @@ const BEHIND: &[(&[u8], u64, &[u8])] = &[
     (b"0 rules 5 1\n", 2, b""),
 ];
 
-/// The same, of levels and the order.
+/// The same, of levels, the order, and who works alone.
 const LEVELS: &[(&[u8], u64, &[u8])] = &[
     (b"0 level 0 7\n", 0, b"quiet\n"),
     (b"0 level 9 0\n", 0, b"refused 5\n"),
@@ -150,6 +150,16 @@ const LEVELS: &[(&[u8], u64, &[u8])] = &[
     (b"0 inorder maybe\n", 2, b""),
     (b"0 inorder yes no\n", 2, b""),
     (b"2 inorder yes\n", 2, b""),
+    (b"0 alone yes\n", 0, b"refused 1\n"),
+    (
+        b"0 join\n0 alone yes\n0 alone no\n",
+        0,
+        b"joined\nquiet\nquiet\n",
+    ),
+    (b"0 alone\n", 2, b""),
+    (b"0 alone maybe\n", 2, b""),
+    (b"0 alone yes no\n", 2, b""),
+    (b"2 alone yes\n", 2, b""),
 ];
 
 /// Whole scripts whose first line that isn't empty is at fault.

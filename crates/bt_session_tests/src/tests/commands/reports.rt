@@ -44,7 +44,7 @@ fn lines_of_bits(alloc: Global) -> Result<(), Fail> {
     is_line(alloc, call, Reply::Noted(true), b"7 haves 20 = noted yes\n")
 }
 
-/// Checks the lines of a block that is given up, of one that takes too long, and of a depth.
+/// Checks the lines of a block that is given up, of one that takes too long, of a depth, and of a peer that works alone.
 fn lines_of_what_is_asked(alloc: Global) -> Result<(), Fail> {
     let call = Call::Release {
         piece: 2,
@@ -58,7 +58,20 @@ fn lines_of_what_is_asked(alloc: Global) -> Result<(), Fail> {
     };
     is_line(alloc, call, Reply::Quiet, b"7 late 2 16384 = quiet\n")?;
     let reply = Reply::Refused(Reason::WrongDepth);
-    is_line(alloc, Call::Depth(65), reply, b"7 depth 65 = refused 11\n")
+    is_line(alloc, Call::Depth(65), reply, b"7 depth 65 = refused 11\n")?;
+    is_line(
+        alloc,
+        Call::Alone(true),
+        Reply::Quiet,
+        b"7 alone yes = quiet\n",
+    )?;
+    let reply = Reply::Refused(Reason::NotJoined);
+    is_line(
+        alloc,
+        Call::Alone(false),
+        reply,
+        b"7 alone no = refused 1\n",
+    )
 }
 
 /// Checks the lines of levels, where one beyond 9 is told as 9, and of an order.

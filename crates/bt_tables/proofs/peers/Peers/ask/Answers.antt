@@ -23,9 +23,10 @@ pub invariant_of-self : goal.invariant_of-self
 invariant_of-self c =
     let o = c.self.inside in
     let lw = worker_within o.rows.items o.shows _ c.args.worker c.self.view_is c.self.invariant.each c.requires.worker in
-    peers_kept o.rows.items o.shows o.shows o.delayed c.args.worker c.index_mut.result.now c.ask.new.self c.self.invariant
+    peers_kept o.rows.items o.shows o.shows o.delayed o.apart c.args.worker c.index_mut.result.now c.ask.new.self c.self.invariant
     refl lw c.index_mut.ensures.value
     (λ none. ap (λ (r : Dealings). r.overdue) c.ask.ensures ∙ none)
+    (λ none. ap (λ (r : Dealings). r.alone) c.ask.ensures ∙ none)
 
 pub returns : goal.returns
 returns c =

@@ -1,4 +1,4 @@
-use Rattle.std.proofs.Common.{arith, refl, ◌&&◌, ◌||◌, ◌==◌}
+use Rattle.std.proofs.Common.{◌∙◌, ap, arith, refl, ◌&&◌, ◌||◌, ◌==◌}
 use Rattle.std.specs.List.{filter}
 use Rattle.bt_history.specs.Peers.{has_place}
 use Rattle.bt_tables.specs.Showing.{Dealings}
@@ -15,7 +15,9 @@ index_mut-requires c =
 pub invariant_of-self : goal.invariant_of-self
 invariant_of-self c =
     let o = c.self.inside in
-    peers_delayed o.rows.items o.shows o.delayed c.args.worker c.delay.new.self c.self.invariant
+    let lw = worker_within o.rows.items o.shows _ c.args.worker c.self.view_is c.self.invariant.each c.requires in
+    peers_delayed o.rows.items o.shows o.delayed o.apart c.args.worker c.index_mut.result.now c.delay.new.self c.self.invariant lw
+    c.index_mut.ensures.value (λ none. ap (λ (r : Dealings). r.alone) c.delay.ensures ∙ none)
 
 pub returns : goal.returns
 returns c =

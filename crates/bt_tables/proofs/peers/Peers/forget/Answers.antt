@@ -34,5 +34,5 @@ returns-else-self c =
     c.forget_at.ensures ∙ forgotten c.args.self.now w c.args.piece c.args.begin c.requires.worker (λ q lq apart.
     others_spared c.args.self.now w c.args.piece c.args.begin c.args.askers c.requires.worker c.requires.askers few q lq apart
     (ap (λ (rows : List PeerState). (peer_row rows q).overdue) (sym c.self.view_is)
-    ∙ row_prompt o.rows.items o.shows o.delayed q c.self.invariant c.if-self.false
+    ∙ row_prompt o.rows.items o.shows o.delayed o.apart q c.self.invariant c.if-self.false
     (worker_within o.rows.items o.shows _ q c.self.view_is c.self.invariant.each lq)))

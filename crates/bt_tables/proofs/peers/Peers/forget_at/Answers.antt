@@ -24,10 +24,11 @@ pub invariant_of-self : goal.invariant_of-self
 invariant_of-self c =
     let o = c.self.inside in
     let lw = worker_within o.rows.items o.shows _ c.args.worker c.self.view_is c.self.invariant.each c.requires.worker in
-    peers_kept o.rows.items o.shows o.shows o.delayed c.args.worker c.index_mut.result.now c.forget.new.self c.self.invariant
+    peers_kept o.rows.items o.shows o.shows o.delayed o.apart c.args.worker c.index_mut.result.now c.forget.new.self c.self.invariant
     refl lw c.index_mut.ensures.value
     (λ none. ap (λ (r : Dealings). r.overdue) c.forget.ensures
     ∙ ap (filter (λ b. not ((c.args.piece == b.piece) && (c.args.begin == b.begin)))) none)
+    (λ none. ap (λ (r : Dealings). r.alone) c.forget.ensures ∙ none)
 
 pub returns : goal.returns
 returns c =

@@ -11,5 +11,5 @@ returns-else-self c =
     c.if-self.false ∙ sym (any_none (length c.args.self.now) (λ q. is_late_at c.args.piece c.args.begin (peer_row c.args.self.now q)) (λ q lq.
     ap (list_any (λ b. (c.args.piece == b.piece) && (c.args.begin == b.begin)))
     (ap (λ (rows : List PeerState). (peer_row rows q).overdue) (sym c.self.view_is)
-    ∙ row_prompt o.rows.items o.shows o.delayed q c.self.invariant c.if-self.false
+    ∙ row_prompt o.rows.items o.shows o.delayed o.apart q c.self.invariant c.if-self.false
     (worker_within o.rows.items o.shows _ q c.self.view_is c.self.invariant.each lq))))

@@ -23,15 +23,16 @@ invariant_of-self c =
     let o = c.self.inside in
     let lw = worker_within o.rows.items o.shows _ c.args.worker c.self.view_is c.self.invariant.each c.requires in
     rw c.clear.ensures
-    (peers_kept o.rows.items o.shows _ o.delayed c.args.worker c.index_mut.result.now c.join.new.self c.self.invariant
+    (peers_kept o.rows.items o.shows _ o.delayed o.apart c.args.worker c.index_mut.result.now c.join.new.self c.self.invariant
     (length_edit o.shows c.args.worker _) lw c.index_mut.ensures.value
-    (λ none. ap (λ (r : Dealings). r.overdue) c.join.ensures))
+    (λ none. ap (λ (r : Dealings). r.overdue) c.join.ensures)
+    (λ none. ap (λ (r : Dealings). r.alone) c.join.ensures))
 
 pub returns : goal.returns
 returns c =
     let o = c.self.inside in
     let lw = worker_within o.rows.items o.shows _ c.args.worker c.self.view_is c.self.invariant.each c.requires in
-    let now : Dealings → Dealings = λ r. record r { joined = true; late = false; told = None; reach = MOST_LEVEL; is_open = false; asked = []; overdue = []; due = [] } in
+    let now : Dealings → Dealings = λ r. record r { joined = true; late = false; told = None; reach = MOST_LEVEL; alone = false; is_open = false; asked = []; overdue = []; due = [] } in
     let flags : List Bool → List Bool = λ flags. replicate (length flags) false in
     rw (← c.self.view_is, c.clear.ensures, c.join.ensures)
     (showing_edit o.rows.items o.shows c.args.worker c.index_mut.result.now now flags join_row c.self.invariant.each lw c.index_mut.ensures.value

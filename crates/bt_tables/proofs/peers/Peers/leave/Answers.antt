@@ -1,4 +1,4 @@
-use Rattle.std.proofs.Common.{arith, refl, List, Bool, [], false, length, replicate, ap}
+use Rattle.std.proofs.Common.{◌∙◌, arith, refl, List, Bool, [], false, length, replicate, ap}
 use Rattle.bt_tables.specs.Showing.{Dealings}
 use Rattle.bt_tables.specs.Tables.{leave_row}
 use Rattle.bt_tables.proofs.Showing.{peers_kept, showing_edit, worker_within}
@@ -22,9 +22,10 @@ invariant_of-self c =
     let o = c.self.inside in
     let lw = worker_within o.rows.items o.shows _ c.args.worker c.self.view_is c.self.invariant.each c.requires in
     rw c.clear.ensures
-    (peers_kept o.rows.items o.shows _ o.delayed c.args.worker c.index_mut.result.now c.leave.new.self c.self.invariant
+    (peers_kept o.rows.items o.shows _ o.delayed o.apart c.args.worker c.index_mut.result.now c.leave.new.self c.self.invariant
     (length_edit o.shows c.args.worker _) lw c.index_mut.ensures.value
-    (λ none. ap (λ (r : Dealings). r.overdue) c.leave.ensures))
+    (λ none. ap (λ (r : Dealings). r.overdue) c.leave.ensures)
+    (λ none. ap (λ (r : Dealings). r.alone) c.leave.ensures ∙ none))
 
 pub returns : goal.returns
 returns c =

@@ -12,6 +12,10 @@ invariant_of-result c = record {
       let rows = c.in_ok-new_rows.ensures in
       ap (λ (row : Dealings). row.overdue) (get_or_is_table _ c.args.workers (λ (v : ℕ). dealings (fresh_peer c.args.room 0)) w d rows
       (omega (arith, lw, length_is_table _ c.args.workers _ rows)));
+  together = λ never w d lw.
+      let rows = c.in_ok-new_rows.ensures in
+      ap (λ (row : Dealings). row.alone) (get_or_is_table _ c.args.workers (λ (v : ℕ). dealings (fresh_peer c.args.room 0)) w d rows
+      (omega (arith, lw, length_is_table _ c.args.workers _ rows)));
 }
 
 pub returns : goal.returns

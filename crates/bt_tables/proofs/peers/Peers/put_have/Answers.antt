@@ -29,9 +29,10 @@ invariant_of-self c =
     let o = c.self.inside in
     let lw = worker_within o.rows.items o.shows _ c.args.worker c.self.view_is c.self.invariant.each c.requires.worker in
     rw c.set.ensures
-    (peers_kept o.rows.items o.shows _ o.delayed c.args.worker c.index_mut.result.now c.note.new.self c.self.invariant
+    (peers_kept o.rows.items o.shows _ o.delayed o.apart c.args.worker c.index_mut.result.now c.note.new.self c.self.invariant
     (length_edit o.shows c.args.worker _) lw c.index_mut.ensures.value
-    (λ none. ap (λ (r : Dealings). r.overdue) c.note.ensures ∙ none))
+    (λ none. ap (λ (r : Dealings). r.overdue) c.note.ensures ∙ none)
+    (λ none. ap (λ (r : Dealings). r.alone) c.note.ensures ∙ none))
 
 pub returns : goal.returns
 returns c =
