@@ -4,7 +4,7 @@ use crate::meter::Spread;
 use crate::peer::slots;
 use crate::queue::SECOND;
 use crate::rule::{Ask, Block, Came, Fault};
-use crate::swarm::{Event, Message, Swarm, SEED};
+use crate::swarm::{Event, Message, Swarm};
 
 impl Swarm<'_> {
     /// Asks the picker what to say to the neighbour, as long as there is something. A word is used for one request, so a question in vain changes
@@ -114,7 +114,11 @@ impl Swarm<'_> {
             self.outcome.blocks.twice += 1;
             return Ok(());
         };
-        match picker.arrived(slot, block)? {
+        let came = picker.arrived(slot, block)?;
+        if came != Came::Twice {
+            taker.hold_one_more(self.setup.content, self.last_move);
+        }
+        match came {
             Came::Stored => taker.begun.add(block.piece),
             Came::Twice => self.outcome.blocks.twice += 1,
             Came::Completed => self.get_piece(peer, block.piece)?,
@@ -150,7 +154,8 @@ impl Swarm<'_> {
         let is_new = !std::mem::replace(&mut self.is_out[piece as usize], true);
         self.unspread -= u32::from(is_new);
         if is_new && self.unspread == 0 {
-            self.outcome.spread = Some(Spread { at: self.queue.now(), sent: self.peers[SEED as usize].sent });
+            let seeds = &self.peers[..self.setup.seeds.len()];
+            self.outcome.spread = Some(Spread { at: self.queue.now(), sent: seeds.iter().map(|seed| seed.sent).sum() });
         }
     }
 
@@ -168,6 +173,7 @@ impl Swarm<'_> {
         whole.whole = Some(now);
         let time = now - whole.came;
         self.outcome.times.push(time);
+        self.outcome.ends.push(now - whole.nearly_whole);
         if self.chooser.is_mixed_in(peer) {
             self.outcome.mixed_in.push(time);
         }
@@ -242,8 +248,9 @@ mod tests {
         let line = Line { up: 5 * SECOND, down: 1_000, delay: 10_000 };
         let setup = Setup {
             content: Content { pieces: 1, blocks: 2 },
-            seed: line,
+            seeds: vec![line],
             seed_gives: None,
+            heeds_cancels: true,
             guests: vec![Guest { at: 0, line }, Guest { at: SECOND, line }],
             stays: None,
             have_delay: 1_000,

@@ -36,8 +36,8 @@ fn main() -> ExitCode {
 fn command(words: &[&str]) -> Fallible<()> {
     match words {
         ["list"] => {
-            scenario::ALL.iter().for_each(|scenario| println!("scenario {:8} {}", scenario.name, scenario.title));
-            rules::all().iter().chain(&rules::mixes()).for_each(|rule| println!("rule {}", rule.name));
+            scenario::ALL.iter().for_each(|scenario| println!("scenario {:9} {}", scenario.name, scenario.title));
+            rules::all().iter().chain(&rules::mixes()).chain(&rules::rushes()).for_each(|rule| println!("rule {}", rule.name));
             Ok(())
         }
         ["run", name, options @ ..] => {

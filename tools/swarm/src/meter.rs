@@ -39,12 +39,12 @@ pub struct Sample {
     pub interested: u64,
 }
 
-/// When each piece was at somebody beside the seed.
+/// When each piece was at somebody beside the seeds.
 #[derive(Clone, Copy, Debug, PartialEq, Eq)]
 pub struct Spread {
     /// The time.
     pub at: Micros,
-    /// The blocks that the seed had sent then.
+    /// The blocks that the seeds had sent then.
     pub sent: u64,
 }
 
@@ -53,13 +53,15 @@ pub struct Spread {
 pub struct Outcome {
     /// How long each peer took that got whole, the shortest first.
     pub times: Vec<Micros>,
+    /// How long each of them took for the last hundredth of its blocks.
+    pub ends: Vec<Micros>,
     /// The same of those who follow the other rule of a mixed swarm.
     pub mixed_in: Vec<Micros>,
     /// How many peers came.
     pub guests: u32,
     /// The pieces that nobody who is here has at the end.
     pub missing: u32,
-    /// When each piece was out of the seed, if that came.
+    /// When each piece was out of the seeds, if that came.
     pub spread: Option<Spread>,
     /// When the run ended.
     pub end: Micros,
@@ -92,6 +94,11 @@ impl Outcome {
         }
         let median = |times: &[Micros]| times.get(times.len().saturating_sub(1) / 2).copied();
         Some((median(&self.mixed_in)?, median(&rest)?))
+    }
+
+    /// How long a peer took for the last hundredth of its blocks, on average.
+    pub fn end_of_each(&self) -> Option<f64> {
+        (!self.ends.is_empty()).then(|| self.ends.iter().sum::<Micros>() as f64 / self.ends.len() as f64)
     }
 
     /// Of pairs of connected downloaders, how many percent were interested, over all samples.

@@ -103,6 +103,9 @@ pub struct Peer {
     /// The pieces that it has, spelled as in a `bitfield` message.
     pub had: Vec<u8>,
     pub had_count: u32,
+    /// How many blocks came that it hadn't, and when all but a hundredth had come.
+    pub held: u64,
+    pub nearly_whole: Micros,
     /// For each piece, the slots that show it.
     pub shown: Vec<u64>,
     /// What chooses its requests, until it is whole.
@@ -139,6 +142,8 @@ impl Peer {
             used: 0,
             had: Vec::new(),
             had_count: 0,
+            held: 0,
+            nearly_whole: 0,
             shown: Vec::new(),
             picker: None,
             begun: Begun::default(),
@@ -176,6 +181,15 @@ impl Peer {
     pub fn get(&mut self, piece: u32) {
         self.had[piece as usize / 8] |= 1 << (7 - piece % 8);
         self.had_count += 1;
+    }
+
+    /// A block came that it hadn't.
+    pub fn hold_one_more(&mut self, content: Content, now: Micros) {
+        self.held += 1;
+        let all = content.all_blocks();
+        if self.held == all - all / 100 {
+            self.nearly_whole = now;
+        }
     }
 
     /// A slot with no connection.
@@ -219,6 +233,14 @@ mod tests {
     fn a_block_takes_its_bytes_over_the_rate() {
         assert_eq!(Line::new(64, 1024, 20), Line { up: 250_000, down: 15_625, delay: 20_000 });
         assert_eq!(Line::new(3, 1, 0).up, 5_333_334);
+    }
+
+    /// Of 250 blocks two are the last hundredth.
+    #[test]
+    fn a_peer_is_nearly_whole_without_a_hundredth_of_its_blocks() {
+        let mut peer = Peer::new(Line::new(1, 1, 0));
+        (1..=250).for_each(|now| peer.hold_one_more(Content { pieces: 125, blocks: 2 }, now));
+        assert_eq!((peer.held, peer.nearly_whole), (250, 248));
     }
 
     #[test]

@@ -32,12 +32,13 @@ const SHOWN: [&str; 7] =
     ["ours, 8 open", "ours", "ours, 8 open by rate", "libtorrent's order", "random", "transmission's order", "one piece a peer"];
 
 /// The columns of a table.
-const HEAD: [&str; 13] = [
+const HEAD: [&str; 14] = [
     "Rule",
     "First, s",
     "Median, s",
     "Sooner, runs",
     "Last, s",
+    "Last 1%, s",
     "Out of the seed, copies",
     "Interest, %",
     "Idle, %",
@@ -120,6 +121,7 @@ fn cells(content: Content, runs: &[Outcome], rule: &str, first: &[Outcome]) -> V
         format!("{}{}", rounded(&time(50)), range(&time(50))),
         sooner(runs, first),
         last(runs),
+        mean(&all(runs, |run| Some(run.end_of_each()? / 1e6)), 2),
         copies(content, runs),
         mean(&all(runs, |run| Some(run.interest())), 1),
         mean(&all(runs, |run| Some(run.idle())), 1),
@@ -218,7 +220,7 @@ fn cell(scenario: &Scenario, runs: &[Outcome]) -> String {
     format!("{} [{}]", rounded(&medians), copies(scenario.content, runs))
 }
 
-/// The copies that the seed had sent when all pieces were out.
+/// The copies that the seeds had sent when all pieces were out.
 fn copies(content: Content, runs: &[Outcome]) -> String {
     mean(&all(runs, |run| Some(run.spread?.sent as f64 / content.all_blocks() as f64)), 2)
 }
@@ -238,9 +240,9 @@ pub fn mixes(rows: &[Row]) -> String {
 pub fn bounds(bounds: &[Bound]) -> String {
     let figure = |pick: fn(&Bound) -> f64| rounded(&bounds.iter().map(|bound| pick(bound) / 1e6).collect::<Vec<_>>());
     format!(
-        "Bounds: {} s by the slowest line down, {} s by the seed's line up, {} s by all lines up.",
+        "Bounds: {} s by the slowest line down, {} s by the lines up of seeds, {} s by all lines up.",
         figure(|bound| bound.down),
-        figure(|bound| bound.seed),
+        figure(|bound| bound.seeds),
         figure(|bound| bound.all)
     )
 }
@@ -258,12 +260,13 @@ mod tests {
     #[test]
     fn a_row_has_the_mean_of_the_runs() {
         let first = vec![run(&[2_000_000, 3_000_000, 4_000_000], 3, 0), run(&[2_000_000, 3_000_000, 4_000_000], 3, 0)];
-        let runs = vec![run(&[1_000_000, 2_000_000, 5_000_000], 3, 0), run(&[3_000_000, 4_000_000, 6_000_000], 3, 0)];
+        let mut runs = vec![run(&[1_000_000, 2_000_000, 5_000_000], 3, 0), run(&[3_000_000, 4_000_000, 6_000_000], 3, 0)];
+        (runs[0].ends, runs[1].ends) = (vec![100_000, 300_000, 200_000], vec![40_000; 3]);
         let rows = [Row { rule: "one", runs: first }, Row { rule: "two", runs }];
         let table = table(Content { pieces: 1, blocks: 1 }, &rows);
         let lines: Vec<&str> = table.lines().collect();
-        assert!(lines[2].starts_with("| one | 2.0 | 3.0 (3.0 to 3.0) | 0 | 4.0 | - |"), "{table}");
-        assert!(lines[3].starts_with("| two | 2.0 | 3.0 (2.0 to 4.0) | 1 | 5.5 | - |"), "{table}");
+        assert!(lines[2].starts_with("| one | 2.0 | 3.0 (3.0 to 3.0) | 0 | 4.0 | - | - |"), "{table}");
+        assert!(lines[3].starts_with("| two | 2.0 | 3.0 (2.0 to 4.0) | 1 | 5.5 | 0.12 | - |"), "{table}");
         assert!(lines.iter().all(|line| line.matches('|').count() == HEAD.len() + 1), "{table}");
     }
 

@@ -24,18 +24,19 @@ pub const ENDGAME: Endgame = Endgame { askers: 2, rush: 32, shown: true };
 const NO_BOUND: u32 = 1024;
 const NO_RUSH: u32 = 4096;
 
-/// Depths that follow the rate: what came in a time, and the usual depth beside.
+/// Depths that follow the rate: what came in a time, and the least depth beside.
 #[derive(Clone, Copy, Debug)]
 pub struct Depths {
     /// The time.
     pub every: Micros,
+    least: u32,
     most: u32,
 }
 
 impl Depths {
     /// The depth of a neighbour that brought so many blocks in the time.
     pub fn depth(self, brought: u32) -> u32 {
-        (DEPTH + brought).min(self.most)
+        (self.least + brought).min(self.most)
     }
 }
 
@@ -148,11 +149,14 @@ fn ours_with(name: &'static str, options: Options, first: First) -> Chooser {
 }
 
 /// Depths by rate: what came in the last second, and five beside.
-const BY_RATE: Depths = Depths { every: SECOND, most: 500 };
+const BY_RATE: Depths = Depths { every: SECOND, least: DEPTH, most: 500 };
 
 fn by_rate(chooser: Chooser) -> Chooser {
     Chooser { depths: Some(BY_RATE), ..chooser }
 }
+
+/// The greatest of these depths, whatever came. It is told after a second, as the others are.
+const DEEP: Depths = Depths { least: BY_RATE.most, ..BY_RATE };
 
 /// Rarest first, as plainly as it can be written, but for what is said otherwise.
 const RAREST: Rarest = Rarest { random: 1, lone_first: false, begun: Ties::Any, fresh: Ties::Any };
@@ -207,6 +211,31 @@ fn with_open() -> Vec<Chooser> {
         ours("ours, 8 open, first rarest", open.random(0)),
         ours("ours, 8 open, 4 random", open.random(4)),
         ours_with("ours, 8 open, lone first", open, First::Lone),
+    ]
+}
+
+/// The library's rules with open pieces and deep pipes, which differ by the bound on what endgame asks again.
+pub fn rushes() -> Vec<Chooser> {
+    let open = usual().open(8).deepest(BY_RATE.most);
+    let rated = |name, rush| by_rate(ours(name, open.rush(rush)));
+    let deep = |name, rush| Chooser { depths: Some(DEEP), ..ours(name, open.depth(64).rush(rush)) };
+    vec![
+        rated("ours, 8 open by rate, rush 0", 0),
+        rated("ours, 8 open by rate, rush 1", 1),
+        rated("ours, 8 open by rate, rush 2", 2),
+        rated("ours, 8 open by rate, rush 4", 4),
+        rated("ours, 8 open by rate, rush 8", 8),
+        rated("ours, 8 open by rate, rush 16", 16),
+        rated("ours, 8 open by rate, rush 64", 64),
+        deep("ours, 8 open, depth 500", ENDGAME.rush),
+        deep("ours, 8 open, depth 500, rush 0", 0),
+        deep("ours, 8 open, depth 500, rush 1", 1),
+        deep("ours, 8 open, depth 500, rush 2", 2),
+        deep("ours, 8 open, depth 500, rush 4", 4),
+        deep("ours, 8 open, depth 500, rush 8", 8),
+        deep("ours, 8 open, depth 500, rush 16", 16),
+        deep("ours, 8 open, depth 500, rush 64", 64),
+        deep("ours, 8 open, depth 500, any rush", NO_RUSH),
     ]
 }
 
@@ -272,7 +301,7 @@ pub fn mixes() -> Vec<Chooser> {
     ]
 }
 
-/// The rule or the mix of this name.
+/// The rule of this name: one of all, a mix, or one with another bound on endgame.
 pub fn named(name: &str) -> Option<Chooser> {
-    all().into_iter().chain(mixes()).find(|chooser| chooser.name == name)
+    all().into_iter().chain(mixes()).chain(rushes()).find(|chooser| chooser.name == name)
 }

@@ -37,10 +37,11 @@ pub struct Scenario {
     /// The rules.
     pub rules: &'static [&'static str],
     lines: &'static [(u64, u64)],
-    seed: (u64, u64),
+    seeds: &'static [(u64, u64)],
     coming: Coming,
-    /// How many percent of the content the seed gives before it leaves.
+    /// How many percent of the content a seed gives before it leaves.
     seed_gives: Option<u64>,
+    heeds_cancels: bool,
     stays: Option<Micros>,
     sampled: Micros,
 }
@@ -109,6 +110,32 @@ const DEPTHS: [&str; 14] = [
     "one piece a peer",
 ];
 
+/// The usual bound on what endgame asks again, and others, where depths follow the rate.
+const RUSHES: [&str; 9] = [
+    "ours, 8 open by rate",
+    "ours, 8 open by rate, rush 0",
+    "ours, 8 open by rate, rush 1",
+    "ours, 8 open by rate, rush 2",
+    "ours, 8 open by rate, rush 4",
+    "ours, 8 open by rate, rush 8",
+    "ours, 8 open by rate, rush 16",
+    "ours, 8 open by rate, rush 64",
+    "ours, 8 open by rate, any rush",
+];
+
+/// The same where all neighbours have deep pipes, slow ones too.
+const DEEP_RUSHES: [&str; 9] = [
+    "ours, 8 open, depth 500",
+    "ours, 8 open, depth 500, rush 0",
+    "ours, 8 open, depth 500, rush 1",
+    "ours, 8 open, depth 500, rush 2",
+    "ours, 8 open, depth 500, rush 4",
+    "ours, 8 open, depth 500, rush 8",
+    "ours, 8 open, depth 500, rush 16",
+    "ours, 8 open, depth 500, rush 64",
+    "ours, 8 open, depth 500, any rush",
+];
+
 /// The usual rule of the library with its other options, and with other ties.
 const OPTIONS: [&str; 16] = [
     "ours, 8 open",
@@ -138,9 +165,10 @@ const FLASH: Scenario = Scenario {
     views: &[View::Content, View::Interest],
     rules: &FEW,
     lines: &HOMES,
-    seed: (256, 1024),
+    seeds: &[(256, 1024)],
     coming: Coming::Within(10 * SECOND),
     seed_gives: None,
+    heeds_cancels: true,
     stays: None,
     sampled: 10 * SECOND,
 };
@@ -156,8 +184,41 @@ const SMALL: Scenario = Scenario {
     ..FLASH
 };
 
+const STRONG: Scenario = Scenario {
+    name: "strong",
+    title: "A seed of 4 MiB/s: 200 downloaders, 200 pieces",
+    seeds: &[(4096, 4096)],
+    runs: 3,
+    views: &[],
+    ..SMALL
+};
+
+const FAST: Scenario = Scenario {
+    name: "fast",
+    title: "Fast lines of 8 MiB/s up: 200 downloaders, 400 pieces",
+    content: Content { pieces: 400, blocks: 16 },
+    runs: 3,
+    views: &[View::Content],
+    lines: &FIBRES,
+    seeds: &[(8192, 32768)],
+    sampled: SECOND / 2,
+    ..SMALL
+};
+
+const SLOW: Scenario = Scenario {
+    name: "slow",
+    title: "A slow seed among four: one downloader, 1,600 pieces",
+    guests: 1,
+    content: Content { pieces: 1_600, blocks: 16 },
+    runs: 20,
+    views: &[],
+    rules: &DEEP_RUSHES,
+    seeds: &[(6400, 6400), (6400, 6400), (6400, 6400), (128, 128)],
+    ..FAST
+};
+
 /// All scenarios.
-pub const ALL: [Scenario; 13] = [
+pub const ALL: [Scenario; 17] = [
     FLASH,
     SMALL,
     Scenario { name: "options", title: "Small flash crowd, with other options of the library", rules: &OPTIONS, views: &[], ..SMALL },
@@ -198,18 +259,12 @@ pub const ALL: [Scenario; 13] = [
         rules: &LOST,
         ..SMALL
     },
-    Scenario { name: "strong", title: "A seed of 4 MiB/s: 200 downloaders, 200 pieces", seed: (4096, 4096), runs: 3, views: &[], ..SMALL },
-    Scenario {
-        name: "fast",
-        title: "Fast lines of 8 MiB/s up: 200 downloaders, 400 pieces",
-        content: Content { pieces: 400, blocks: 16 },
-        runs: 3,
-        views: &[View::Content],
-        lines: &FIBRES,
-        seed: (8192, 32768),
-        sampled: SECOND / 2,
-        ..SMALL
-    },
+    STRONG,
+    FAST,
+    SLOW,
+    Scenario { name: "deaf", title: "The same seeds, which pass over cancels", heeds_cancels: false, ..SLOW },
+    Scenario { name: "strongend", title: "A strong seed, with other bounds on endgame", rules: &RUSHES, ..STRONG },
+    Scenario { name: "fastend", title: "Fast lines, with other bounds on endgame", rules: &RUSHES, views: &[], ..FAST },
     Scenario {
         name: "steady",
         title: "Steady state: one comes each 5 s, and leaves 60 s after it is whole",
@@ -290,8 +345,9 @@ impl Scenario {
         let guests = times.into_iter().map(|at| Guest { at, line: self.line(&mut random) }).collect();
         Setup {
             content: self.content,
-            seed: Line::new(self.seed.0, self.seed.1, DELAYS.0),
+            seeds: self.seeds.iter().map(|&(up, down)| Line::new(up, down, DELAYS.0)).collect(),
             seed_gives: self.seed_gives.map(|percent| self.content.all_blocks() * percent / 100),
+            heeds_cancels: self.heeds_cancels,
             guests,
             stays: self.stays,
             have_delay: 2 * DELAYS.1 * 1000,

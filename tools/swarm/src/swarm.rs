@@ -11,7 +11,7 @@ use crate::timed::Spent;
 use std::cell::Cell;
 use std::rc::Rc;
 
-/// The seed's number. The guests follow.
+/// The first seed's number. The other seeds follow, and then the guests.
 pub const SEED: u32 = 0;
 
 /// The time between two choices of whom to unchoke.
@@ -76,7 +76,7 @@ pub struct Swarm<'a> {
     pub(crate) here: Vec<u32>,
     /// How many of those who are here have each piece.
     pub(crate) copies: Vec<u32>,
-    /// Whether somebody beside the seed ever had the piece, and how many pieces that isn't so of.
+    /// Whether somebody beside the seeds ever had the piece, and how many pieces that isn't so of.
     pub(crate) is_out: Vec<bool>,
     pub(crate) unspread: u32,
     pub(crate) connections: u32,
@@ -96,7 +96,7 @@ pub fn run(setup: &Setup, chooser: &Chooser, seed: u64) -> Result<Outcome, Fault
 impl<'a> Swarm<'a> {
     /// The swarm before anybody came.
     pub fn new(setup: &'a Setup, chooser: &'a Chooser, seed: u64) -> Swarm<'a> {
-        let lines = std::iter::once(setup.seed).chain(setup.guests.iter().map(|guest| guest.line));
+        let lines = setup.seeds.iter().copied().chain(setup.guests.iter().map(|guest| guest.line));
         let mut swarm = Swarm {
             setup,
             chooser,
@@ -115,6 +115,11 @@ impl<'a> Swarm<'a> {
         swarm.queue.put(0, Event::Come { peer: SEED });
         swarm.queue.put(0, Event::Sample);
         swarm
+    }
+
+    /// Whether the peer is there from the beginning, with everything.
+    pub(crate) fn is_seed(&self, peer: u32) -> bool {
+        (peer as usize) < self.setup.seeds.len()
     }
 
     /// All are whole, or nothing moves any more.

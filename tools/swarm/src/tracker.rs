@@ -3,7 +3,7 @@
 use crate::peer::{slots, CONNECTIONS};
 use crate::queue::SECOND;
 use crate::rule::Fault;
-use crate::swarm::{Event, Message, Swarm, ROUND, SEED};
+use crate::swarm::{Event, Message, Swarm, ROUND};
 
 /// How many peers the tracker names.
 const NAMED: usize = 50;
@@ -16,13 +16,13 @@ impl Swarm<'_> {
     pub(crate) fn come(&mut self, peer: u32) -> Result<(), Fault> {
         let now = self.queue.now();
         self.last_move = now;
-        let is_seed = peer == SEED;
+        let is_seed = self.is_seed(peer);
         let picker = if is_seed { None } else { Some(self.chooser.picker(peer, self.setup.content, &self.spent)?) };
         let comer = &mut self.peers[peer as usize];
         comer.come(self.setup.content, now, picker);
         comer.word = self.random.word();
         if is_seed {
-            self.fill_seed();
+            self.fill_seed(peer);
         } else if let Some(depths) = self.chooser.depths() {
             self.queue.put(depths.every, Event::Depths { peer });
         }
@@ -30,14 +30,14 @@ impl Swarm<'_> {
         self.here.push(peer);
         let first = self.random.below(ROUND);
         self.queue.put(first, Event::Round { peer });
-        if let Some(next) = self.setup.guests.get(peer as usize) {
-            self.queue.put(next.at - now, Event::Come { peer: peer + 1 });
+        if let Some(at) = self.setup.comes(peer + 1) {
+            self.queue.put(at - now, Event::Come { peer: peer + 1 });
         }
         Ok(())
     }
 
-    fn fill_seed(&mut self) {
-        let seed = &mut self.peers[SEED as usize];
+    fn fill_seed(&mut self, peer: u32) {
+        let seed = &mut self.peers[peer as usize];
         seed.whole = Some(0);
         for piece in 0..self.setup.content.pieces {
             seed.get(piece);

@@ -4,7 +4,7 @@ use crate::choking::{in_turns, tit_for_tat, Decision, Rival, UNCHOKED};
 use crate::peer::{slots, Sending};
 use crate::queue::SECOND;
 use crate::rule::{Block, Fault};
-use crate::swarm::{Event, Message, Swarm, ROUND, SEED};
+use crate::swarm::{Event, Message, Swarm, ROUND};
 
 /// How many rounds the optimistic place of a neighbour lasts: 30 seconds.
 const OPTIMISTIC_ROUNDS: u32 = (30 * SECOND / ROUND) as u32;
@@ -89,8 +89,11 @@ impl Swarm<'_> {
         }
     }
 
-    /// A cancel came. A block that is being sent goes on.
+    /// A cancel came. A block that is being sent goes on, and where no cancel is heeded all others do.
     pub(crate) fn forget(&mut self, peer: u32, slot: u8, block: Block) {
+        if !self.setup.heeds_cancels {
+            return;
+        }
         let server = &mut self.peers[peer as usize];
         let waiting = &mut server.links[slot as usize].waiting;
         waiting.retain(|&other| other != block);
@@ -116,7 +119,7 @@ impl Swarm<'_> {
         self.queue.put(server.line.up, Event::Sent { peer });
     }
 
-    /// A block is out of the line up. The seed may have given enough now.
+    /// A block is out of the line up. A seed may have given enough now.
     pub(crate) fn sent(&mut self, peer: u32) -> Result<(), Fault> {
         let server = &mut self.peers[peer as usize];
         let Some(sending) = server.sending.take() else { return Ok(()) };
@@ -126,7 +129,7 @@ impl Swarm<'_> {
             self.outcome.blocks.sent += 1;
             self.say(peer, slot, 0, Message::Reaches(sending.block));
         }
-        if peer == SEED && self.setup.seed_gives.is_some_and(|enough| self.peers[peer as usize].sent >= enough) {
+        if self.is_seed(peer) && self.setup.seed_gives.is_some_and(|enough| self.peers[peer as usize].sent >= enough) {
             return self.leave(peer);
         }
         self.serve(peer);
@@ -142,6 +145,7 @@ mod tests {
     use crate::rule::Content;
     use crate::rules;
     use crate::setup::{Guest, Setup};
+    use crate::swarm::SEED;
 
     const UP: Micros = 1_000_000;
     const DELAY: Micros = 20_000;
@@ -150,8 +154,9 @@ mod tests {
         let line = Line { up: UP, down: 1_000, delay: DELAY / 2 };
         Setup {
             content: Content { pieces: 4, blocks: 16 },
-            seed: line,
+            seeds: vec![line],
             seed_gives: None,
+            heeds_cancels: true,
             guests: vec![Guest { at: 0, line }; guests],
             stays: None,
             have_delay: DELAY,
@@ -183,6 +188,15 @@ mod tests {
         assert_eq!(waiting(&swarm, 0), [before[0], before[2], before[3]]);
         before.iter().for_each(|&block| swarm.forget(SEED, 0, block));
         assert_eq!((waiting(&swarm, 0), swarm.peers[SEED as usize].ready), (vec![], 0));
+    }
+
+    #[test]
+    fn a_cancel_that_isnt_heeded_drops_nothing() {
+        let (setup, chooser) = (Setup { heeds_cancels: false, ..setup(1) }, rules::named("ours").unwrap());
+        let mut swarm = busy(&setup, &chooser);
+        let before = waiting(&swarm, 0);
+        before.iter().for_each(|&block| swarm.forget(SEED, 0, block));
+        assert_eq!((waiting(&swarm, 0), before.len()), (before, 4));
     }
 
     /// The block that is being sent goes on, and comes before the choke.

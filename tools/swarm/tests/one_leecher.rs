@@ -12,8 +12,9 @@ const CONTENT: Content = Content { pieces: 30, blocks: 16 };
 fn setup(seed: Line, guest: Line) -> Setup {
     Setup {
         content: CONTENT,
-        seed,
+        seeds: vec![seed],
         seed_gives: None,
+        heeds_cancels: true,
         guests: vec![Guest { at: 0, line: guest }],
         stays: None,
         have_delay: 1_000,
@@ -40,6 +41,16 @@ fn the_line_up_of_the_seed_is_the_limit() {
     for rule in rules::all() {
         assert_eq!(run(&setup, &rule, 1).unwrap().times, [expected], "{}", rule.name);
     }
+}
+
+/// Each of two seeds sends half of the blocks. Of the last two, which come at once, one waits for the line down.
+#[test]
+fn two_seeds_take_half_the_time() {
+    let seed = line(50_000, 1_000, 20_000);
+    let setup = Setup { seeds: vec![seed; 2], ..setup(seed, line(1_000, 10_000, 10_000)) };
+    let run = run(&setup, &rules::named("ours, 8 open").unwrap(), 1).unwrap();
+    assert_eq!(run.times, [4 * 30_000 + CONTENT.all_blocks() / 2 * 50_000 + 10_000]);
+    assert!((setup.bound().seeds - 12_000_000.0).abs() < 1.0);
 }
 
 /// The first byte takes four delays, then the blocks come through the line down without a gap.
@@ -75,7 +86,7 @@ fn a_deeper_pipe_fills_the_line() {
 #[test]
 fn the_bounds_are_those_of_the_lines() {
     let bound = setup(line(30_000, 1_000, 0), line(60_000, 10_000, 0)).bound();
-    assert_eq!((bound.down, bound.seed), (4_800_000.0, 14_400_000.0));
+    assert_eq!((bound.down, bound.seeds), (4_800_000.0, 14_400_000.0));
     assert!((bound.all - 9_600_000.0).abs() < 1.0, "{bound:?}");
     assert_eq!(bound.greatest(), 14_400_000.0);
 }

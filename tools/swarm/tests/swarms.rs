@@ -100,6 +100,7 @@ fn each_peer_gets_each_block_and_none_is_lost_on_the_way() {
             assert_eq!(blocks.received - blocks.twice, 40 * scenario.content.all_blocks(), "{}, {name}", rule.name);
             assert_eq!(blocks.sent, blocks.received + blocks.lost + blocks.under_way, "{}, {name}", rule.name);
             assert!(run.requests >= blocks.received, "{}, {name}", rule.name);
+            assert!(run.ends.len() == 40 && run.ends.iter().max() <= run.times.last(), "{}, {name}", rule.name);
         }
     }
 }
@@ -139,6 +140,18 @@ fn with_one_asker_few_blocks_come_twice() {
     assert!(one < two && two < all, "{one}, {two}, {all}");
 }
 
+/// Where seeds pass over cancels, most of what endgame asks again comes twice, and takes its time. Without endgame the last blocks wait for the
+/// slow seed.
+#[test]
+fn a_bound_on_endgame_saves_blocks_and_time() {
+    let mut scenario = named("deaf").unwrap();
+    scenario.content.pieces = 400;
+    let rules = ["ours, 8 open, depth 500, rush 0", "ours, 8 open, depth 500", "ours, 8 open, depth 500, any rush"];
+    let [none, usual, any] = rules.map(|rule| outcome(&scenario, rule, 1));
+    assert!(none.blocks.twice == 0 && usual.blocks.twice > 0 && any.blocks.twice > 10 * usual.blocks.twice);
+    assert!(usual.times < any.times && any.times < none.times, "{:?}", [usual.times, any.times, none.times]);
+}
+
 #[test]
 fn a_swarm_without_its_seed_stops_where_pieces_are_gone() {
     let run = outcome(&small("leaves"), "ours, in order", 1);
@@ -161,7 +174,7 @@ fn pieces_are_out_when_the_seed_has_sent_them() {
 fn peers_give_each_other_most_of_what_they_get() {
     let scenario = small("flash");
     let setup = scenario.setup(1);
-    let alone = 40 * scenario.content.all_blocks() * setup.seed.up;
+    let alone = 40 * scenario.content.all_blocks() * setup.seeds[0].up;
     for rule in ["ours", "rarest", "random"] {
         let end = outcome(&scenario, rule, 1).end;
         assert!(end < alone / 4, "{rule}: {end} of {alone}");
