@@ -10,7 +10,7 @@ use Rattle.bt_history.specs.declared.call.Reason.{Reason}
 use Rattle.bt_history.specs.declared.call.Reply.{Reply}
 use Rattle.bt_history.specs.declared.call.Reply.TheVariants.{Request, Stored, Completed, Dropped, Had, Failed, Refused}
 use Rattle.bt_history.specs.declared.event.Action.{Action}
-use Rattle.bt_history.specs.declared.event.Action.TheVariants.{Next, Arrived, Settle}
+use Rattle.bt_history.specs.declared.event.Action.TheVariants.{Next, Arrived, Settle, Lose, Discard}
 use Rattle.bt_history.specs.declared.event.Event.{Event}
 use Rattle.bt_history.specs.Setting.{Setting, some_block, some_block_of, each_block_of, is_block}
 use Rattle.bt_history.specs.History.{History, settles, is_had, is_failed}
@@ -257,6 +257,22 @@ passed_hash s h e p allowed is settling =
 pub had_reply : (r : Reply) → is_had r ≡ true → r ≡ Had
 had_reply Had is = refl
 had_reply _ is = absurd (cc is)
+
+-- a check alone is answered that its piece is had
+pub had_settles : (s : Setting) (h : History) (e : Event) → IsAllowed s h e → e.reply ≡ Had → (p : ℕ) × (bytes : List ℕ) × (e.action ≡ Settle p bytes)
+had_settles s h e allowed is = by_call e.action refl
+    (subst (λ (r : Reply). answers (call_mark e.action) r ≡ true) is (allowed_answers s h e allowed))
+    (subst (λ (r : Reply). Permits s.torrent (answer s h e.worker e.action) r) is
+    (answered s h e (no_cause s h e (λ reason refused. absurd (cc (is, refused))) allowed) allowed))
+  where
+    by_call : (call : Action) → e.action ≡ call → answers (call_mark call) Had ≡ true → Permits s.torrent (answer s h e.worker call) Had
+        → (p : ℕ) × (bytes : List ℕ) × (e.action ≡ Settle p bytes)
+    by_call (Settle p bytes) at fits permitted = (p, bytes, at)
+    by_call (Lose p) at fits permitted = absurd (cc permitted)
+    by_call (Discard p begin) at fits permitted = absurd (cc permitted)
+    by_call (Next word) at fits permitted = absurd (cc fits)
+    by_call (Arrived p begin bytes) at fits permitted = absurd (cc fits)
+    by_call _ at fits permitted = absurd (cc fits)
 
 pub failed_reply : (r : Reply) → is_failed r ≡ true → r ≡ Failed
 failed_reply Failed is = refl

@@ -1,4 +1,4 @@
--- The list of finished pieces: it has just the pieces that are had, each once, and only grows at its end.
+-- The list of finished pieces: where none was lost it has just the pieces that are had, each once. It only grows at its end.
 use Rattle.std.proofs.Common.{◌≡◌, ◌≢◌, ℕ, ◌==◌, ◌+◌, ◌<◌, Bool, true, false, ◌&&◌, ◌||◌, List, [], ◌∷◌, ◌++◌, length, refl, ap, sym, ◌∙◌, arith}
 use Rattle.std.proofs.Common.{append_assoc, append-nil, length-append, subst, ⊎_elim, suc, eqb-true}
 use Rattle.std.specs.Prelude.{if◌then◌else◌, slice_index_or}
@@ -14,12 +14,13 @@ use Rattle.bt_history.specs.declared.event.Event.{Event}
 use Rattle.bt_history.specs.Setting.{Setting}
 use Rattle.bt_history.specs.Counting.{count_below}
 use Rattle.bt_history.specs.History.{History, is_had, settles, passed}
-use Rattle.bt_history.specs.Pieces.{had, had_count}
+use Rattle.bt_history.specs.Before.{had_before, never_loses}
+use Rattle.bt_history.specs.Pieces.{had}
 use Rattle.bt_history.specs.Finished.{checked_by, finished_by, finished}
 use Rattle.bt_history.specs.Legal.{IsAllowed, IsLegal, refusal}
-use Rattle.bt_history.specs.Logs.{answers, call_mark}
 use Rattle.bt_history.proofs.Below.{count_at, count_none, count_same, count_short, one_if}
-use Rattle.bt_history.proofs.Allowed.{allowed_answers, had_reply, no_cause, settle_facts}
+use Rattle.bt_history.proofs.Allowed.{had_reply, had_settles, no_cause, settle_facts}
+use Rattle.bt_history.proofs.Losing.{had_as_before, had_once, never_parts}
 
 -- ---- the list has just the pieces that are had
 
@@ -37,12 +38,12 @@ finished_by_is e p = by_reply (is_had e.reply) where
   by_reply true = checked_is e.action p
   by_reply false = refl
 
--- a piece is had where the list has it
-pub had_finished : (h : History) (p : ℕ) → had h p ≡ list_any (λ q. q == p) (finished h)
-unfolding had finished
+-- a piece was had once where the list has it
+had_finished : (h : History) (p : ℕ) → had_before h p ≡ list_any (λ q. q == p) (finished h)
+unfolding had_before finished
 had_finished [] p = refl
 had_finished (e ∷ h) p =
-    swapped (passed e p) (had h p)
+    swapped (passed e p) (had_before h p)
     ∙ ap (λ (x : Bool). x || passed e p) (had_finished h p)
     ∙ ap (λ (x : Bool). list_any (λ q. q == p) (finished h) || x) (sym (finished_by_is e p))
     ∙ sym (list_any-append (λ q. q == p) (finished h) (finished_by e))
@@ -70,11 +71,13 @@ place_any xs k lk =
 
 -- a piece that is had stands at some place of the list
 pub finished_place : (h : History) (p : ℕ) → had h p ≡ true → (k : ℕ) × (k < length (finished h)) × (slice_index_or (finished h) k 0 ≡ p)
-finished_place h p is = any_place (finished h) p (sym (had_finished h p) ∙ is)
+finished_place h p is = any_place (finished h) p (sym (had_finished h p) ∙ had_once h p is)
 
--- and each piece of the list is had
-pub finished_had : (h : History) (k : ℕ) → k < length (finished h) → had h (slice_index_or (finished h) k 0) ≡ true
-finished_had h k lk = had_finished h (slice_index_or (finished h) k 0) ∙ place_any (finished h) k lk
+-- and each piece of the list is had, where none was lost
+pub finished_had : (h : History) (k : ℕ) → never_loses h ≡ true → k < length (finished h) → had h (slice_index_or (finished h) k 0) ≡ true
+finished_had h k never lk =
+    let p = slice_index_or (finished h) k 0 in
+    had_as_before h p never ∙ (had_finished h p ∙ place_any (finished h) k lk)
 
 -- ---- it only grows at its end
 
@@ -92,33 +95,29 @@ had_facts_of : (s : Setting) (h : History) (e : Event) → IsAllowed s h e → i
     → (p : ℕ) × (bytes : List ℕ) × (e.action ≡ Settle p bytes) × (p < piece_count s.torrent) × (had h p ≡ false)
 had_facts_of s h e allowed is =
     let reply = had_reply e.reply is in
-    let call = checks e.action (subst (λ (r : Reply). answers (call_mark e.action) r ≡ true) reply (allowed_answers s h e allowed)) in
+    let call = had_settles s h e allowed reply in
     let unrefused = no_cause s h e (λ reason refused. absurd (cc (reply, refused))) allowed in
     let facts = settle_facts s h e.worker call.0 call.1 (ap (refusal s h e.worker) (sym call.2) ∙ unrefused) in
     (call.0, call.1, call.2, leb-false (piece_count s.torrent) call.0 facts.piece, facts.not_had)
-  where
-    checks : (action : Action) → answers (call_mark action) Had ≡ true → (p : ℕ) × (bytes : List ℕ) × (action ≡ Settle p bytes)
-    checks (Settle p bytes) fits = (p, bytes, refl)
-    checks (Next word) fits = absurd (cc fits)
-    checks (Arrived p begin bytes) fits = absurd (cc fits)
-    checks _ fits = absurd (cc fits)
 
--- there are as many as are had
-pub finished_count : (s : Setting) (h : History) → IsLegal s h → length (finished h) ≡ had_count s h
-unfolding finished had
-finished_count s [] legal = sym (count_none (piece_count s.torrent) (had []) (λ k lk. refl))
-finished_count s (e ∷ h) legal =
-    let before = finished_count s h legal.0 in
+-- there are as many as were had, where none was lost
+count_before : (s : Setting) (h : History) → IsLegal s h → never_loses h ≡ true
+    → length (finished h) ≡ count_below (piece_count s.torrent) (had_before h)
+unfolding finished had_before
+count_before s [] legal never = sym (count_none (piece_count s.torrent) (had_before []) (λ k lk. refl))
+count_before s (e ∷ h) legal never =
+    let older = (never_parts e h never).1 in
+    let before = count_before s h legal.0 older in
     rw (length-append (finished h) (finished_by e)) (by_reply before (is_had e.reply) refl)
   where
-    idle : is_had e.reply ≡ false → (k : ℕ) → (passed e k || had h k) ≡ had h k
-    idle is k = ap (λ (x : Bool). (x && settles e.action k) || had h k) is
+    idle : is_had e.reply ≡ false → (k : ℕ) → (passed e k || had_before h k) ≡ had_before h k
+    idle is k = ap (λ (x : Bool). (x && settles e.action k) || had_before h k) is
 
-    by_reply : length (finished h) ≡ had_count s h → (x : Bool) → is_had e.reply ≡ x
-        → length (finished h) + length (finished_by e) ≡ count_below (piece_count s.torrent) (λ k. passed e k || had h k)
+    by_reply : length (finished h) ≡ count_below (piece_count s.torrent) (had_before h) → (x : Bool) → is_had e.reply ≡ x
+        → length (finished h) + length (finished_by e) ≡ count_below (piece_count s.torrent) (λ k. passed e k || had_before h k)
     by_reply before false is =
         let none : finished_by e ≡ [] = ap (λ (x : Bool). if x then checked_by e.action else []) is in
-        let same = count_same (piece_count s.torrent) (λ k. passed e k || had h k) (had h) (λ k lk. idle is k) in
+        let same = count_same (piece_count s.torrent) (λ k. passed e k || had_before h k) (had_before h) (λ k lk. idle is k) in
         let zero_long : length (finished_by e) ≡ 0 = ap length none in
         omega (arith, before, same, zero_long)
     by_reply before true is =
@@ -127,17 +126,18 @@ finished_count s (e ∷ h) legal =
         let long : length (finished_by e) ≡ 1 = ap length one in
         let now : (k : ℕ) → passed e k ≡ (facts.0 == k) =
         λ k. ap (λ (x : Bool). x && settles e.action k) is ∙ ap (λ (a : Action). settles a k) facts.2 in
-        let others : (k : ℕ) → k < piece_count s.torrent → k ≢ facts.0 → had h k ≡ (passed e k || had h k) =
-        λ k lk apart. sym (ap (λ (x : Bool). x || had h k) (now k ∙ ne_eqb facts.0 k (λ same. apart (sym same)))) in
-        let step = count_at (piece_count s.torrent) (had h) (λ k. passed e k || had h k) facts.0 facts.3 others in
-        let new : one_if (passed e facts.0 || had h facts.0) ≡ 1 =
-        ap (λ (x : Bool). one_if (x || had h facts.0)) (now facts.0 ∙ eq-eqb facts.0 facts.0 refl) in
-        let old : one_if (had h facts.0) ≡ 0 = ap one_if facts.4 in
+        let others : (k : ℕ) → k < piece_count s.torrent → k ≢ facts.0 → had_before h k ≡ (passed e k || had_before h k) =
+        λ k lk apart. sym (ap (λ (x : Bool). x || had_before h k) (now k ∙ ne_eqb facts.0 k (λ same. apart (sym same)))) in
+        let step = count_at (piece_count s.torrent) (had_before h) (λ k. passed e k || had_before h k) facts.0 facts.3 others in
+        let new : one_if (passed e facts.0 || had_before h facts.0) ≡ 1 =
+        ap (λ (x : Bool). one_if (x || had_before h facts.0)) (now facts.0 ∙ eq-eqb facts.0 facts.0 refl) in
+        let old : one_if (had_before h facts.0) ≡ 0 = ap one_if (sym (had_as_before h facts.0 (never_parts e h never).1) ∙ facts.4) in
         omega (arith, before, step, new, old, long)
 
 -- so there is room for one more, where an entry says Had
-pub finished_room : (s : Setting) (h : History) (e : Event) → IsLegal s h → IsAllowed s h e → e.reply ≡ Had
+pub finished_room : (s : Setting) (h : History) (e : Event) → IsLegal s h → never_loses h ≡ true → IsAllowed s h e → e.reply ≡ Had
     → length (finished h) < piece_count s.torrent
-finished_room s h e legal allowed is =
+finished_room s h e legal never allowed is =
     let facts = had_facts_of s h e allowed (ap is_had is) in
-    rw (finished_count s h legal) (count_short (piece_count s.torrent) (had h) facts.0 facts.3 facts.4)
+    rw (count_before s h legal never)
+    (count_short (piece_count s.torrent) (had_before h) facts.0 facts.3 (sym (had_as_before h facts.0 never) ∙ facts.4))

@@ -1,24 +1,26 @@
 -- Laws of what is held and had in a legal history, and of blocks asked twice.
-use Rattle.std.proofs.Common.{◌≡◌, ◌⊎◌, ℕ, zero, suc, ◌<◌, Bool, true, false, not, ◌&&◌, ◌||◌, List, [], ◌∷◌, ◌++◌, Option, None, Some, refl, ap}
+use Rattle.std.proofs.Common.{◌≡◌, ◌⊎◌, ℕ, zero, suc, ◌<◌, ◌==◌, Bool, true, false, not, ◌&&◌, ◌||◌, List, [], ◌∷◌, ◌++◌, Option, None, Some, refl, ap}
 use Rattle.std.proofs.Common.{sym, ◌∙◌, arith, ⊎_elim, inl, inr, subst}
 use Rattle.std.specs.Prelude.{is_some, is_none, if◌then◌else◌, unwrap_or}
 use Rattle.std.specs.List.{list_any}
 use Rattle.std.specs.Cmp.Lexicographic.{same_text}
-use Rattle.std.proofs.lemmas.Bool.{and_parts, and_left, and_right, or_from, or_cases, or_left, or_right, false≢true, true≢false, false_from_ne_true}
+use Rattle.std.proofs.lemmas.Bool.{and_from, and_parts, eqb-true, not-true, and_left, and_right, or_from, or_cases, or_left, or_right, false≢true, true≢false, false_from_ne_true}
 use Rattle.sha1.specs.Sha1.{sha1}
 use Rattle.bt_meta.specs.declared.block.Block.{Block}
 use Rattle.bt_meta.specs.Layout.{piece_count, block_count, block, hash_of}
 use Rattle.bt_history.specs.declared.call.Reply.{Reply}
 use Rattle.bt_history.specs.declared.call.Reply.TheVariants.{Had, Failed, Request}
+use Rattle.bt_history.specs.declared.event.Action.{Action}
+use Rattle.bt_history.specs.declared.event.Action.TheVariants.{Settle, Lose, Discard}
 use Rattle.bt_history.specs.declared.event.Event.{Event}
 use Rattle.bt_history.specs.Setting.{Setting, is_block, each_block, each_block_of}
-use Rattle.bt_history.specs.History.{History, own_call, same_begin, stored, stores, bytes_for, failed, is_failed, is_had, settles, passed, requested}
+use Rattle.bt_history.specs.History.{History, own_call, same_begin, stored, stores, bytes_for, frees, freed, is_failed, is_had, loses, lost, settles, passed, requested}
 use Rattle.bt_history.specs.Peers.{asked, asks, expected, lasts, overdue, resets}
 use Rattle.bt_history.specs.Pieces.{kept, held, content, joined_below, full, had, asked_of_some, held_or_asked, unasked, awaited, endgame, was_endgame}
-use Rattle.bt_history.specs.Legal.{IsLegal, IsAllowed, same_bytes}
+use Rattle.bt_history.specs.Legal.{IsLegal, IsAllowed, causes, refusal, same_bytes}
 use Rattle.bt_history.proofs.Below.{any_fails, all_at, all_found}
 use Rattle.bt_history.proofs.SameBegin.{held_at}
-use Rattle.bt_history.proofs.Allowed.{request_facts, check_facts, passed_hash, had_reply, failed_reply, worker_below}
+use Rattle.bt_history.proofs.Allowed.{request_facts, check_facts, passed_hash, had_reply, failed_reply, worker_below, no_cause, none_holds, settle_facts}
 use Rattle.bt_history.proofs.Arrivals.{stored_unheld}
 use Rattle.bt_history.proofs.Delays.{expected_at, expected_cases}
 use Rattle.bt_history.proofs.LineLaws.{block_index, Asks, asks_or_none}
@@ -40,9 +42,9 @@ storing_asks_nothing q e b is = ⊎_elim
     (λ (none : requested q e ≡ []). none)
     (asks_or_none q e)
 
-kept_unstored : (h : History) (e : Event) (b : Block) → stored e b ≡ None → kept (e ∷ h) b ≡ (if failed e b.piece then None else kept h b)
+kept_unstored : (h : History) (e : Event) (b : Block) → stored e b ≡ None → kept (e ∷ h) b ≡ (if freed e b then None else kept h b)
 unfolding kept
-kept_unstored h e b none = ap (λ (o : Option (List ℕ)). if failed e b.piece then None else if is_some o then o else kept h b) none
+kept_unstored h e b none = ap (λ (o : Option (List ℕ)). if freed e b then None else if is_some o then o else kept h b) none
 
 -- ---- nobody is asked for a held block
 
@@ -51,7 +53,7 @@ unfolding kept asked
 held_unasked s [] q b legal is = refl
 held_unasked s (e ∷ h) q b legal is = ⊎_elim
     (λ (none : stored e b ≡ None).
-    let before : held h b ≡ true = was_held (failed e b.piece) (sym (ap is_some (kept_unstored h e b none)) ∙ is) in
+    let before : held h b ≡ true = was_held (freed e b) (sym (ap is_some (kept_unstored h e b none)) ∙ is) in
     and_right (not (resets (own_call q e))) _ (or_from (lasts q e b && asked h q b) (asks q e b)
     (and_right (lasts q e b) (asked h q b) (held_unasked s h q b legal.0 before))
     (not_asked_now before)))
@@ -81,16 +83,28 @@ held_unasked s (e ∷ h) q b legal is = ⊎_elim
 
 -- ---- a piece that is had is full, with the bytes of its hash
 
--- no check of a piece that is had fails
-no_failure : (s : Setting) (h : History) (e : Event) (p : ℕ) → IsAllowed s h e → had h p ≡ true → failed e p ≡ false
-no_failure s h e p allowed before = false_from_ne_true (failed e p) (λ fails.
-    let parts = and_parts (is_failed e.reply) (settles e.action p) fails in
-    let reply : e.reply ≡ Failed = failed_reply e.reply parts.0 in
-    let check = check_facts s h e p allowed (λ reason refused. absurd (cc (reply, refused))) parts.1 in
-    false≢true (sym check.1 ∙ before))
+-- no block of a piece that is had is freed, unless the piece is lost
+unfreed : (s : Setting) (h : History) (e : Event) (p : ℕ) → IsAllowed s h e → had h p ≡ true → lost e p ≡ false
+    → (b : Block) → b.piece ≡ p → freed e b ≡ false
+unfreed s h e p allowed before stays b at = false_from_ne_true (freed e b) (λ frees_it.
+    let parts = and_parts (is_failed e.reply) (frees e.action b) frees_it in
+    by_call e.action refl parts.0 (no_cause s h e (λ reason refused. absurd (cc (failed_reply e.reply parts.0, refused))) allowed) parts.1)
+  where
+    by_call : (call : Action) → e.action ≡ call → is_failed e.reply ≡ true → refusal s h e.worker e.action ≡ None → frees call b ≡ true → ⊥
+    by_call (Settle r bytes) is fails cause this =
+        let facts = settle_facts s h e.worker r bytes (ap (refusal s h e.worker) (sym is) ∙ cause) in
+        false≢true (sym facts.not_had ∙ (ap (had h) (eqb-true r b.piece this ∙ at) ∙ before))
+    by_call (Lose r) is fails cause this =
+        false≢true (sym stays ∙ (ap (λ (a : Action). is_failed e.reply && loses a p) is
+        ∙ (ap (λ (q : ℕ). is_failed e.reply && (r == q)) (sym at) ∙ and_from (is_failed e.reply) (r == b.piece) fails this)))
+    by_call (Discard r begin) is fails cause this =
+        let piece = (and_parts (r == b.piece) (begin == b.begin) this).0 in
+        let none = none_holds (causes s h e.worker (Discard r begin)) (ap (refusal s h e.worker) (sym is) ∙ cause) in
+        false≢true (sym none.1.1.0 ∙ (ap (had h) (eqb-true r b.piece piece ∙ at) ∙ before))
+    by_call call is fails cause this = absurd (cc this)
 
--- an allowed entry leaves the bytes of a held block whose piece does not fail
-kept_on : (s : Setting) (h : History) (e : Event) (b : Block) → IsAllowed s h e → failed e b.piece ≡ false → held h b ≡ true →
+-- an allowed entry leaves the bytes of a held block that it doesn't free
+kept_on : (s : Setting) (h : History) (e : Event) (b : Block) → IsAllowed s h e → freed e b ≡ false → held h b ≡ true →
     kept (e ∷ h) b ≡ kept h b
 kept_on s h e b allowed lasting is = ⊎_elim
     (λ (none : stored e b ≡ None). kept_unstored h e b none ∙ ap (λ (x : Bool). if x then None else kept h b) lasting)
@@ -107,11 +121,12 @@ joined_same zero f g h = refl
 joined_same (suc n) f g h =
     ap (λ (xs : List ℕ). xs ++ f n) (joined_same n f g (λ k lk. h k (omega arith))) ∙ ap (λ (xs : List ℕ). joined_below n g ++ xs) (h n (omega arith))
 
--- an allowed entry that does not fail a full piece leaves it full, with the same bytes
-had_on : (s : Setting) (h : History) (e : Event) (p : ℕ) → IsAllowed s h e → failed e p ≡ false → HadFacts s h p → HadFacts s (e ∷ h) p
+-- an allowed entry that frees no block of a full piece leaves it full, with the same bytes
+had_on : (s : Setting) (h : History) (e : Event) (p : ℕ) → IsAllowed s h e → ((b : Block) → b.piece ≡ p → freed e b ≡ false) → HadFacts s h p
+    → HadFacts s (e ∷ h) p
 had_on s h e p allowed lasting facts =
     let same : (k : ℕ) → k < block_count s.torrent p → kept (e ∷ h) (block s.torrent p k) ≡ kept h (block s.torrent p k) =
-    λ k lk. kept_on s h e (block s.torrent p k) allowed lasting
+    λ k lk. kept_on s h e (block s.torrent p k) allowed (lasting (block s.torrent p k) refl)
     (all_at (block_count s.torrent p) (λ j. held h (block s.torrent p j)) k facts.is_full lk) in
     let content_same : content s (e ∷ h) p ≡ content s h p =
     joined_same (block_count s.torrent p) _ _ (λ k lk. ap (λ (o : Option (List ℕ)). unwrap_or o []) (same k lk)) in
@@ -129,10 +144,12 @@ had_facts s (e ∷ h) p legal is = ⊎_elim
     let parts = and_parts (is_had e.reply) (settles e.action p) now in
     let reply : e.reply ≡ Had = had_reply e.reply parts.0 in
     let check = check_facts s h e p legal.1 (λ reason refused. absurd (cc (reply, refused))) parts.1 in
-    had_on s h e p legal.1 (ap (λ (r : Reply). is_failed r && settles e.action p) reply)
+    had_on s h e p legal.1 (λ b at. ap (λ (r : Reply). is_failed r && frees e.action b) reply)
     (record { is_full = check.0; hash = passed_hash s h e p legal.1 reply parts.1 }))
-    (λ (before : had h p ≡ true). had_on s h e p legal.1 (no_failure s h e p legal.1 before) (had_facts s h p legal.0 before))
-    (or_cases (passed e p) (had h p) is)
+    (λ (before : (not (lost e p) && had h p) ≡ true).
+    let parts = and_parts (not (lost e p)) (had h p) before in
+    had_on s h e p legal.1 (unfreed s h e p legal.1 parts.1 (not-true (lost e p) parts.0)) (had_facts s h p legal.0 parts.1))
+    (or_cases (passed e p) (not (lost e p) && had h p) is)
 
 pub had_full : (s : Setting) (h : History) (p k : ℕ) → IsLegal s h → had h p ≡ true → k < block_count s.torrent p →
     held h (block s.torrent p k) ≡ true

@@ -6,7 +6,7 @@ use Rattle.bt_meta.specs.Layout.{block, block_size}
 use Rattle.bt_history.specs.declared.event.Action.{Action}
 use Rattle.bt_history.specs.declared.event.Event.{Event}
 use Rattle.bt_history.specs.Setting.{Setting}
-use Rattle.bt_history.specs.History.{History, bytes_for, failed, stored, stores}
+use Rattle.bt_history.specs.History.{History, bytes_for, freed, stored, stores}
 use Rattle.bt_history.specs.Legal.{IsAllowed, IsLegal}
 use Rattle.bt_history.specs.Pieces.{kept}
 use Rattle.bt_history.proofs.Arrivals.{StoreFacts, store_facts}
@@ -43,7 +43,7 @@ pub held_len : (s : Setting) (h : History) → IsLegal s h → (p k : ℕ) (byte
 unfolding kept
 held_len s [] legal p k bytes is = absurd cc
 held_len s (e ∷ h) legal p k bytes is =
-    by_entry (λ older. held_len s h legal.0 p k bytes older) (failed e p) (stored e (block s.torrent p k)) refl is
+    by_entry (λ older. held_len s h legal.0 p k bytes older) (freed e (block s.torrent p k)) (stored e (block s.torrent p k)) refl is
   where
     by_entry : (kept h (block s.torrent p k) ≡ Some bytes → length bytes ≡ (block s.torrent p k).len)
         → (fails : Bool) (o : Option (List ℕ)) → stored e (block s.torrent p k) ≡ o

@@ -11,12 +11,12 @@ use Rattle.bt_meta.specs.Layout.{Layout, piece_count, block_count, block}
 use Rattle.bt_history.specs.declared.call.Reply.{Reply}
 use Rattle.bt_history.specs.declared.call.Reply.TheVariants.{Request, Idle, NothingLeft, Refused}
 use Rattle.bt_history.specs.declared.event.Action.{Action}
-use Rattle.bt_history.specs.declared.event.Action.TheVariants.{Join, Choke, Next, Arrived, Settle, Leave, Want, Release, Level, Levels, Lack, Late, Alone}
+use Rattle.bt_history.specs.declared.event.Action.TheVariants.{Join, Choke, Next, Arrived, Settle, Leave, Want, Release, Level, Levels, Lack, Late, Alone, Lose, Discard}
 use Rattle.bt_history.specs.declared.event.Event.{Event}
 use Rattle.bt_history.specs.Counting.{all_below, any_below, count_below}
 use Rattle.bt_history.specs.Setting.{Setting, is_block, some_block, some_block_of, each_block, each_block_of, count_blocks}
 use Rattle.bt_history.specs.History.{History, counts, counted_call, own_call, same_begin, stores, stored, bytes_for, requested, requested_by}
-use Rattle.bt_history.specs.History.{cancelled, cancelled_by, failed, passed, is_failed, is_had, settles}
+use Rattle.bt_history.specs.History.{cancelled, cancelled_by, freed, frees, lost, loses, passed, is_failed, is_had, settles}
 use Rattle.bt_history.specs.Peers.{asked, asks, asked_count, resets, releases, lasts, shows, shows_after, is_open, is_open_after, told_depth}
 use Rattle.bt_history.specs.Peers.{alone, alone_after, delays, told_after, depth_of, due, expected, overdue, reach, reach_after}
 use Rattle.bt_history.specs.Pieces.{kept, held, had, gives, level, level_after, wanted, interesting, asked_of_some, asker_count, held_or_asked}
@@ -42,7 +42,8 @@ use Rattle.bt_history.proofs.Owning.{awaited_touched, doubled_awaited, own_alone
 record Calm (s : Setting) (h : History) (e : Event) : Type 0 where
   pub resets_none : (q : ℕ) → resets (own_call q e) ≡ false
   pub releases_none : (q : ℕ) (b : Block) → releases (own_call q e) b ≡ false
-  pub fails_none : (p : ℕ) → failed e p ≡ false
+  pub frees_none : (b : Block) → freed e b ≡ false
+  pub loses_none : (p : ℕ) → lost e p ≡ false
   pub passes_none : (p : ℕ) → passed e p ≡ false
   pub levels_same : (p before : ℕ) → level_after (counted_call e) p before ≡ before
   pub delays_none : (q : ℕ) (b : Block) → delays (own_call q e) b ≡ false
@@ -74,6 +75,16 @@ calm_alone call false before is = refl
 calm_alone (Alone alone) true before is = absurd (cc is)
 calm_alone Join true before is = absurd (cc is)
 calm_alone call true before is = refl
+
+calm_frees : (call : Action) (b : Block) → unsettles call ≡ false → frees call b ≡ false
+calm_frees (Settle p bytes) b is = absurd (cc is)
+calm_frees (Lose p) b is = absurd (cc is)
+calm_frees (Discard p begin) b is = absurd (cc is)
+calm_frees call b is = refl
+
+calm_loses : (call : Action) (p : ℕ) → unsettles call ≡ false → loses call p ≡ false
+calm_loses (Lose r) p is = absurd (cc is)
+calm_loses call p is = refl
 
 calm_settles : (call : Action) (p : ℕ) → unsettles call ≡ false → settles call p ≡ false
 calm_settles (Settle r bytes) p is = absurd (cc is)
@@ -109,7 +120,8 @@ refused_calm : (s : Setting) (h : History) (e : Event) → counts e.reply ≡ fa
 refused_calm s h e refused = record {
   resets_none = λ q. ap (λ (x : Bool). resets (if x && (e.worker == q) then Some e.action else None)) refused;
   releases_none = λ q b. ap (λ (x : Bool). releases (if x && (e.worker == q) then Some e.action else None) b) refused;
-  fails_none = λ p. and_left (is_failed e.reply) _ (refused_says e.reply refused).fails;
+  frees_none = λ b. and_left (is_failed e.reply) _ (refused_says e.reply refused).fails;
+  loses_none = λ p. and_left (is_failed e.reply) _ (refused_says e.reply refused).fails;
   passes_none = λ p. and_left (is_had e.reply) _ (refused_says e.reply refused).passes;
   levels_same = λ p before. ap (λ (x : Bool). level_after (if x then Some e.action else None) p before) refused;
   delays_none = λ q b. ap (λ (x : Bool). delays (if x && (e.worker == q) then Some e.action else None) b) refused;
@@ -152,7 +164,8 @@ still_calm : (s : Setting) (h : History) (e : Event) → unsettles e.action ≡ 
 still_calm s h e settled begun_none within = record {
   resets_none = λ q. calm_resets e.action (counts e.reply && (e.worker == q)) settled;
   releases_none = λ q b. calm_releases e.action (counts e.reply && (e.worker == q)) b settled;
-  fails_none = λ p. and_right (is_failed e.reply) (settles e.action p) (calm_settles e.action p settled);
+  frees_none = λ b. and_right (is_failed e.reply) (frees e.action b) (calm_frees e.action b settled);
+  loses_none = λ p. and_right (is_failed e.reply) (loses e.action p) (calm_loses e.action p settled);
   passes_none = λ p. and_right (is_had e.reply) (settles e.action p) (calm_settles e.action p settled);
   levels_same = λ p before. calm_levels e.action (counts e.reply) p before settled;
   delays_none = λ q b. calm_delays e.action (counts e.reply && (e.worker == q)) b settled;
@@ -220,7 +233,7 @@ module _ (s : Setting) (h : History) (e : Event) (allowed : IsAllowed s h e) (st
   -- what was held is held
   held_on : (b : Block) → held h b ≡ true → held (e ∷ h) b ≡ true
   unfolding kept
-  held_on b is = by_test (stored e b) (failed e b.piece) (still.fails_none b.piece) where
+  held_on b is = by_test (stored e b) (freed e b) (still.frees_none b) where
     by_test : (o : Option (List ℕ)) (x : Bool) → x ≡ false → is_some (if x then None else if is_some o then o else kept h b) ≡ true
     by_test o true fails = absurd (cc fails)
     by_test None false fails = is
@@ -229,7 +242,7 @@ module _ (s : Setting) (h : History) (e : Event) (allowed : IsAllowed s h e) (st
   -- what is stored is held
   stored_held : (b : Block) → is_some (stored e b) ≡ true → held (e ∷ h) b ≡ true
   unfolding kept
-  stored_held b is = by_test (stored e b) (failed e b.piece) is (still.fails_none b.piece) where
+  stored_held b is = by_test (stored e b) (freed e b) is (still.frees_none b) where
     by_test : (o : Option (List ℕ)) (x : Bool) → is_some o ≡ true → x ≡ false → is_some (if x then None else if is_some o then o else kept h b) ≡ true
     by_test o true some fails = absurd (cc fails)
     by_test None false some fails = absurd (cc some)
@@ -291,7 +304,7 @@ module _ (s : Setting) (h : History) (e : Event) (allowed : IsAllowed s h e) (st
 
   had_same : (p : ℕ) → had (e ∷ h) p ≡ had h p
   unfolding had
-  had_same p = ap (λ (x : Bool). x || had h p) (still.passes_none p)
+  had_same p = λ i. still.passes_none p i || (not (still.loses_none p i) && had h p)
 
   -- what was held or asked is so
   touched_on : (b : Block) → held_or_asked s h b ≡ true → held_or_asked s (e ∷ h) b ≡ true
@@ -308,20 +321,20 @@ module _ (s : Setting) (h : History) (e : Event) (allowed : IsAllowed s h e) (st
   sender_on : (b : Block) → held h b ≡ true → sender (e ∷ h) b ≡ sender h b
   unfolding sender
   sender_on b is =
-      ap (λ (x : Bool). if x then None else if is_some (stored e b) then Some e.worker else sender h b) (still.fails_none b.piece)
+      ap (λ (x : Bool). if x then None else if is_some (stored e b) then Some e.worker else sender h b) (still.frees_none b)
       ∙ ap (λ (x : Bool). if x then Some e.worker else sender h b)
       (false_from_ne_true (is_some (stored e b)) (λ some. false≢true (sym (stored_unheld s h e b allowed some) ∙ is)))
 
   sender_now : (b : Block) → is_some (stored e b) ≡ true → sender (e ∷ h) b ≡ Some e.worker
   unfolding sender
   sender_now b some =
-      ap (λ (x : Bool). if x then None else if is_some (stored e b) then Some e.worker else sender h b) (still.fails_none b.piece)
+      ap (λ (x : Bool). if x then None else if is_some (stored e b) then Some e.worker else sender h b) (still.frees_none b)
       ∙ ap (λ (x : Bool). if x then Some e.worker else sender h b) some
 
   -- what is held now and wasn't is stored
   newly_held : (b : Block) → held h b ≡ false → held (e ∷ h) b ≡ true → is_some (stored e b) ≡ true
   unfolding kept
-  newly_held b lacking holds = by_test (stored e b) (failed e b.piece) holds where
+  newly_held b lacking holds = by_test (stored e b) (freed e b) holds where
     by_test : (o : Option (List ℕ)) (x : Bool) → is_some (if x then None else if is_some o then o else kept h b) ≡ true → is_some o ≡ true
     by_test o true none = absurd (cc none)
     by_test None false some = absurd (false≢true (sym lacking ∙ some))

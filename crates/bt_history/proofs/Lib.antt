@@ -13,6 +13,7 @@ pub mod HeldLaws
 pub mod Marks
 pub mod Journals
 pub mod HeldLengths
+pub mod Losing
 pub mod Finished
 pub mod Before
 pub mod Askers

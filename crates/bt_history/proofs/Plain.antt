@@ -33,7 +33,7 @@ use Rattle.bt_history.proofs.NextCases.{next_cases, without_test}
 use Rattle.bt_history.proofs.Opening.{unbounded}
 use Rattle.bt_history.proofs.Reaching.{gives_full}
 use Rattle.bt_history.proofs.Owning.{free_unowned}
-use Rattle.bt_history.specs.Before.{never_alone, tells_alone}
+use Rattle.bt_history.specs.Before.{is_loss, never_alone, never_loses, tells_alone}
 
 -- no entry of the history is a later call
 pub record IsPlain (h : History) : Type 0 where
@@ -44,6 +44,7 @@ pub record IsPlain (h : History) : Type 0 where
   pub reaches : never_reaches h ≡ true
   pub delays : never_delays h ≡ true
   pub alone : never_alone h ≡ true
+  pub losses : never_loses h ≡ true
 
 -- the rules have nothing that came with a later number: no bound on askers or on whom endgame asks, begun pieces first, and an endgame that
 -- waits for all that is wanted
@@ -55,18 +56,19 @@ pub record AreOld (s : Setting) : Type 0 where
 
 -- of a plain history the newest call is plain, and so are the older ones
 plain_newest : (e : Event) (h : History) → IsPlain (e ∷ h) → is_plain e.action ≡ true
-unfolding never_releases never_deepens never_adds never_levels never_reaches never_delays never_alone
+unfolding never_releases never_deepens never_adds never_levels never_reaches never_delays never_alone never_loses
 plain_newest e h plain =
     and_from (not (is_release e.action)) _ (and_parts _ (never_releases h) plain.releases).0
     (and_from (not (is_depth e.action)) _ (and_parts _ (never_deepens h) plain.depths).0
     (and_from (not (is_haves e.action)) _ (and_parts _ (never_adds h) plain.adds).0
     (and_from (not (is_levelling e.action)) _ (and_parts _ (never_levels h) plain.levels).0
     (and_from (not (is_reach e.action)) _ (and_parts _ (never_reaches h) plain.reaches).0
-    (and_from (not (is_delay e.action)) (not (tells_alone e.action)) (and_parts _ (never_delays h) plain.delays).0
-    (and_parts _ (never_alone h) plain.alone).0)))))
+    (and_from (not (is_delay e.action)) _ (and_parts _ (never_delays h) plain.delays).0
+    (and_from (not (tells_alone e.action)) (not (is_loss e.action)) (and_parts _ (never_alone h) plain.alone).0
+    (and_parts _ (never_loses h) plain.losses).0))))))
 
 plain_older : (e : Event) (h : History) → IsPlain (e ∷ h) → IsPlain h
-unfolding never_releases never_deepens never_adds never_levels never_reaches never_delays never_alone
+unfolding never_releases never_deepens never_adds never_levels never_reaches never_delays never_alone never_loses
 plain_older e h plain = record {
   releases = (and_parts (not (is_release e.action)) (never_releases h) plain.releases).1;
   depths = (and_parts (not (is_depth e.action)) (never_deepens h) plain.depths).1;
@@ -75,6 +77,7 @@ plain_older e h plain = record {
   reaches = (and_parts (not (is_reach e.action)) (never_reaches h) plain.reaches).1;
   delays = (and_parts (not (is_delay e.action)) (never_delays h) plain.delays).1;
   alone = (and_parts (not (tells_alone e.action)) (never_alone h) plain.alone).1;
+  losses = (and_parts (not (is_loss e.action)) (never_loses h) plain.losses).1;
 }
 
 due_is_plain : (h : History) (q : ℕ) (b : Block) → never_releases h ≡ true → due h q b ≡ plain_due h q b

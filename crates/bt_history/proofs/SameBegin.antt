@@ -1,12 +1,12 @@
 -- What an entry and a history say of a block depends on where it begins alone.
-use Rattle.std.proofs.Common.{◌≡◌, ℕ, ◌==◌, true, List, [], ◌∷◌, Option, refl, ap, sym, ◌∙◌}
+use Rattle.std.proofs.Common.{◌≡◌, ℕ, ◌==◌, ◌&&◌, Bool, true, List, [], ◌∷◌, Option, refl, ap, sym, ◌∙◌}
 use Rattle.std.specs.Prelude.{is_some, if◌then◌else◌, None}
 use Rattle.std.proofs.lemmas.Bool.{eqb-true, eq-eqb, and_parts, and_from}
 use Rattle.bt_meta.specs.declared.block.Block.{Block}
 use Rattle.bt_history.specs.declared.event.Action.{Action}
-use Rattle.bt_history.specs.declared.event.Action.TheVariants.{Arrived}
+use Rattle.bt_history.specs.declared.event.Action.TheVariants.{Arrived, Settle, Lose, Discard}
 use Rattle.bt_history.specs.declared.event.Event.{Event}
-use Rattle.bt_history.specs.History.{History, same_begin, stores, stored, bytes_for, failed}
+use Rattle.bt_history.specs.History.{History, same_begin, stores, stored, bytes_for, frees, freed, is_failed}
 use Rattle.bt_history.specs.Pieces.{kept, held}
 
 -- the block at b's place with another length
@@ -34,6 +34,15 @@ bytes_resized : (call : Action) (b : Block) (n : ℕ) → bytes_for (resized b n
 bytes_resized (Arrived p begin bytes) b n = refl
 bytes_resized _ b n = refl
 
+frees_resized : (call : Action) (b : Block) (n : ℕ) → frees call (resized b n) ≡ frees call b
+frees_resized (Settle p bytes) b n = refl
+frees_resized (Lose p) b n = refl
+frees_resized (Discard p begin) b n = refl
+frees_resized _ b n = refl
+
+freed_resized : (e : Event) (b : Block) (n : ℕ) → freed e (resized b n) ≡ freed e b
+freed_resized e b n = ap (λ (x : Bool). is_failed e.reply && x) (frees_resized e.action b n)
+
 pub stored_resized : (e : Event) (b : Block) (n : ℕ) → stored e (resized b n) ≡ stored e b
 stored_resized e b n = ap (λ (o : Option (List ℕ)). if stores e.reply then o else None) (bytes_resized e.action b n)
 
@@ -41,8 +50,9 @@ pub kept_resized : (h : History) (b : Block) (n : ℕ) → kept h (resized b n) 
 unfolding kept
 kept_resized [] b n = refl
 kept_resized (e ∷ h) b n =
-    ap (λ (o : Option (List ℕ)). if failed e b.piece then None else if is_some o then o else kept h (resized b n)) (stored_resized e b n)
-    ∙ ap (λ (o : Option (List ℕ)). if failed e b.piece then None else if is_some (stored e b) then stored e b else o) (kept_resized h b n)
+    ap (λ (x : Bool). if x then None else if is_some (stored e (resized b n)) then stored e (resized b n) else kept h (resized b n)) (freed_resized e b n)
+    ∙ ap (λ (o : Option (List ℕ)). if freed e b then None else if is_some o then o else kept h (resized b n)) (stored_resized e b n)
+    ∙ ap (λ (o : Option (List ℕ)). if freed e b then None else if is_some (stored e b) then stored e b else o) (kept_resized h b n)
 
 pub stored_at : (e : Event) (a b : Block) → same_begin a b ≡ true → stored e b ≡ stored e a
 stored_at e a b is = ap (stored e) (same_but_len a b is) ∙ stored_resized e a b.len

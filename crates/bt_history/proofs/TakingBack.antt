@@ -1,18 +1,22 @@
--- Entries that take something back: a release, a piece that a peer lacks, or a request that is late. What each changes, and what it leaves.
+-- Entries that take something back: a release, a piece that a peer lacks, a request that is late, or blocks that are freed with no check. What
+-- each changes, and what it leaves.
 use Rattle.std.proofs.Common.{◌≡◌, ℕ, ◌==◌, Bool, true, false, not, ◌&&◌, ◌||◌, List, [], ◌∷◌, ◌++◌, Option, None, Some, append-nil, ap, refl, ◌∙◌}
 use Rattle.std.proofs.Math.Bool.{or-false}
 use Rattle.std.specs.Prelude.{if◌then◌else◌}
 use Rattle.std.specs.List.{filter, list_any}
 use Rattle.bt_meta.specs.declared.block.Block.{Block}
-use Rattle.bt_history.specs.declared.call.Reply.TheVariants.{Noted, Quiet}
+use Rattle.bt_history.specs.declared.call.Reply.TheVariants.{Failed, Noted, Quiet}
 use Rattle.bt_history.specs.declared.event.Action.{Action}
-use Rattle.bt_history.specs.declared.event.Action.TheVariants.{Lack, Late, Release}
+use Rattle.bt_history.specs.declared.event.Action.TheVariants.{Discard, Lack, Late, Lose, Release}
 use Rattle.bt_history.specs.Entries.{delaying, giving_up, lacking}
 use Rattle.bt_history.specs.History.{History, same_begin}
 use Rattle.bt_history.specs.Legal.{place_at}
 use Rattle.bt_history.specs.Peers.{asked, delays, due, dues, is_open, is_open_after, joined, joined_after, late, late_after, outstanding, overdue}
 use Rattle.bt_history.specs.Peers.{reach, reach_after, releases, resets, shows, shows_after, told_after, told_depth}
 use Rattle.bt_history.specs.Peers.{alone, alone_after}
+use Rattle.bt_history.specs.Before.{is_loss}
+use Rattle.bt_history.specs.Losses.{LeavesPeers}
+use Rattle.bt_history.specs.Pieces.{level, level_after, order_after, order_from}
 
 pub filter_all : (bs : List Block) → filter (λ b. true) bs ≡ bs
 filter_all [] = refl
@@ -206,3 +210,106 @@ module _ (h : History) (w p begin q : ℕ) where
         (outstanding h q) ++ (if◌then◌else◌ {A = List Block} x [] [])) ≡ outstanding h q
     by_worker true = append-nil _ ∙ filter_all (outstanding h q)
     by_worker false = append-nil _ ∙ filter_all (outstanding h q)
+
+-- ---- blocks that are freed with no check
+
+-- what such a call, or none, leaves of peer q
+record PassesBy (o : Option Action) (h : History) (q p : ℕ) : Type 0 where
+  pub member : joined_after o (joined h q) ≡ joined h q
+  pub shown : shows_after o p (shows h q p) ≡ shows h q p
+  pub told : late_after o (late h q) ≡ late h q
+  pub opened : is_open_after o (is_open h q) ≡ is_open h q
+  pub depth : told_after o (told_depth h q) ≡ told_depth h q
+  pub highest : reach_after o (reach h q) ≡ reach h q
+  pub apart : alone_after o (alone h q) ≡ alone h q
+  pub resets_none : resets o ≡ false
+  pub releases_none : (b : Block) → releases o b ≡ false
+  pub delays_none : (b : Block) → delays o b ≡ false
+
+passes_by : (x : Bool) (call : Action) (h : History) (q p : ℕ) → is_loss call ≡ true → PassesBy (if_own x call) h q p
+passes_by false call h q p is = record {
+  member = refl;
+  shown = refl;
+  told = refl;
+  opened = refl;
+  depth = refl;
+  highest = refl;
+  apart = refl;
+  resets_none = refl;
+  releases_none = λ b. refl;
+  delays_none = λ b. refl;
+}
+passes_by true (Lose r) h q p is = record {
+  member = refl;
+  shown = refl;
+  told = refl;
+  opened = refl;
+  depth = refl;
+  highest = refl;
+  apart = refl;
+  resets_none = refl;
+  releases_none = λ b. refl;
+  delays_none = λ b. refl;
+}
+passes_by true (Discard r begin) h q p is = record {
+  member = refl;
+  shown = refl;
+  told = refl;
+  opened = refl;
+  depth = refl;
+  highest = refl;
+  apart = refl;
+  resets_none = refl;
+  releases_none = λ b. refl;
+  delays_none = λ b. refl;
+}
+passes_by true call h q p is = absurd (cc is)
+
+level_on : (call : Action) (p before : ℕ) → is_loss call ≡ true → level_after (Some call) p before ≡ before
+level_on (Lose r) p before is = refl
+level_on (Discard r begin) p before is = refl
+level_on call p before is = absurd (cc is)
+
+order_on : (call : Action) (before : ℕ) → is_loss call ≡ true → order_after (Some call) before ≡ before
+order_on (Lose r) before is = refl
+order_on (Discard r begin) before is = refl
+order_on call before is = absurd (cc is)
+
+-- all that is known of peers stays
+pub leaves_peers : (h : History) (w : ℕ) (call : Action) (q : ℕ) (b : Block) → is_loss call ≡ true
+    → LeavesPeers (record { worker = w; action = call; reply = Failed }) h q b
+unfolding alone asked due dues is_open joined late level order_from outstanding overdue reach shows told_depth
+leaves_peers h w call q b is =
+    let x = w == q in
+    let on = passes_by x call h q b.piece is in
+    record {
+      members = on.member;
+      pieces_shown = on.shown;
+      told = on.told;
+      opened = on.opened;
+      depth = on.depth;
+      highest = on.highest;
+      apart = on.apart;
+      requests = (λ i. not (on.resets_none i) && ((not (on.releases_none b i) && asked h q b) || list_any (λ a. same_begin a b) (empty x i)))
+          ∙ or-false (asked h q b);
+      line = (λ i. if on.resets_none i then [] else filter (λ a. not (on.releases_none a i)) (outstanding h q) ++ empty x i)
+          ∙ append-nil _ ∙ filter_all (outstanding h q);
+      late_requests = λ i. not (on.resets_none i) && (not (on.releases_none b i) && ((on.delays_none b i && asked h q b) || overdue h q b));
+      cancels = (λ i. not (on.resets_none i) && (not (nothing x i) && (due h q b || false))) ∙ or-false (due h q b);
+      cancel_line = cancelled_none x _ on.resets_none;
+      levels = level_on call b.piece (level h b.piece) is;
+      order = order_on call (order_from h) is;
+    }
+  where
+    empty : (x : Bool) → (if◌then◌else◌ {A = List Block} x [] []) ≡ []
+    empty true = refl
+    empty false = refl
+
+    nothing : (x : Bool) → (x && false) ≡ false
+    nothing true = refl
+    nothing false = refl
+
+    cancelled_none : (x : Bool) (o : Option Action) → resets o ≡ false
+        → (if resets o then [] else filter (λ a. not (x && false)) (dues h q) ++ (if x then [] else filter (λ a. false) (outstanding h q))) ≡ dues h q
+    cancelled_none true o none = (λ i. if none i then [] else filter (λ a. true) (dues h q) ++ []) ∙ append-nil _ ∙ filter_all (dues h q)
+    cancelled_none false o none = (λ i. if none i then [] else filter_all (dues h q) i ++ filter_none (outstanding h q) i) ∙ append-nil _

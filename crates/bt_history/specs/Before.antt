@@ -1,17 +1,18 @@
 -- The rules as they were before there were later calls: what the laws compare them with. The later calls release a block, bound its
 -- askers, tell the depth of a peer, add to what it shows and take from it, give pieces levels and an order, bound a peer's reach, let a part of the levels
--- come in order, tell that a request is late, and let a peer work alone.
-use Rattle.std.specs.Prelude.{ℕ, Bool, true, false, not, ◌==◌, ◌&&◌, ◌||◌, List, [], ◌∷◌, ◌++◌, Option, Some, is_none, nat_lt, nat_le, if◌then◌else◌}
+-- come in order, tell that a request is late, let a peer work alone, and free blocks with no check.
+use Rattle.std.specs.Prelude.{ℕ, Bool, true, false, not, ◌==◌, ◌&&◌, ◌||◌, List, [], ◌∷◌, ◌++◌, Option, None, Some, is_none, is_some, nat_lt, nat_le, if◌then◌else◌}
 use Rattle.std.specs.List.{filter}
 use Rattle.bt_meta.specs.declared.block.Block.{Block}
 use Rattle.bt_meta.specs.Layout.{piece_count}
 use Rattle.bt_history.specs.declared.call.Reply.TheVariants.{Choked, PipeFull, Idle, NothingLeft}
 use Rattle.bt_history.specs.declared.event.Action.{Action}
 use Rattle.bt_history.specs.declared.event.Action.TheVariants.{Join, Bits, Have, Choke, Unchoke, Arrived, Leave, Want, Haves, Depth, Release}
-use Rattle.bt_history.specs.declared.event.Action.TheVariants.{Level, Levels, InOrder, Reach, InOrderFrom, Lack, Late, Alone}
+use Rattle.bt_history.specs.declared.event.Action.TheVariants.{Level, Levels, InOrder, Reach, InOrderFrom, Lack, Late, Alone, Lose, Discard}
+use Rattle.bt_history.specs.declared.event.Event.{Event}
 use Rattle.bt_history.specs.Counting.{all_below, any_below, count_below}
 use Rattle.bt_history.specs.Setting.{Setting, some_block, each_block}
-use Rattle.bt_history.specs.History.{History, counted_call, own_call, stored, requested}
+use Rattle.bt_history.specs.History.{History, counted_call, is_failed, own_call, passed, requested, settles, stored}
 use Rattle.bt_history.specs.Peers.{flag, shows, is_open, asks, asked, asked_count, due, depth_of, overdue, resets}
 use Rattle.bt_history.specs.Pieces.{gives, is_free_for, is_open_piece, offers, asker_count, held, held_or_asked, wanted, begun, unbegun, availability, endgame, interesting, had_count, unasked}
 use Rattle.bt_history.specs.Legal.{place_at}
@@ -263,6 +264,38 @@ usable_unowned s h q b = unasked s h b && (wanted s h b.piece && (gives h q b.pi
 -- an open piece that q offers
 abbrev pub resumes_unowned : Setting → History → ℕ → ℕ → Bool
 resumes_unowned s h q p = is_open_piece s h p && offers s h q p
+
+-- the call frees blocks with no check
+abbrev pub is_loss : Action → Bool
+is_loss (Lose p) = true
+is_loss (Discard p begin) = true
+is_loss call = false
+
+-- no entry does
+unfoldable pub never_loses : History → Bool
+never_loses [] = true
+never_loses (e ∷ h) = not (is_loss e.action) && never_loses h
+
+-- the entry is a check of piece p that failed
+abbrev pub failed : Event → ℕ → Bool
+failed e p = is_failed e.reply && settles e.action p
+
+-- the bytes of block b, if it is held: stored, and its piece has not failed a check since
+unfoldable pub kept_before : History → Block → Option (List ℕ)
+kept_before [] b = None
+kept_before (e ∷ h) b =
+    if failed e b.piece then None else if is_some (stored e b) then stored e b else kept_before h b
+
+-- the worker whose peer brought block b, if it is held
+unfoldable pub sender_before : History → Block → Option ℕ
+sender_before [] b = None
+sender_before (e ∷ h) b =
+    if failed e b.piece then None else if is_some (stored e b) then Some e.worker else sender_before h b
+
+-- piece p was checked, and had its hash
+unfoldable pub had_before : History → ℕ → Bool
+had_before [] p = false
+had_before (e ∷ h) p = passed e p || had_before h p
 
 -- the call tells from which level on pieces come in order
 abbrev pub is_window : Action → Bool

@@ -5,9 +5,10 @@ use Rattle.bt_history.specs.declared.call.Call.{Call}
 use Rattle.bt_history.specs.declared.call.Call.TheVariants as calls
 use Rattle.bt_history.specs.declared.call.Entry.{Entry}
 use Rattle.bt_history.specs.declared.call.Reply.{Reply}
+use Rattle.bt_history.specs.declared.call.Reply.TheVariants.{Failed}
 use Rattle.bt_history.specs.declared.event.Action.{Action}
 use Rattle.bt_history.specs.declared.event.Action.TheVariants.{Join, Bits, Have, Choke, Unchoke, Next, Arrived, Settle, Leave, Want, Haves, Depth}
-use Rattle.bt_history.specs.declared.event.Action.TheVariants.{Release, Level, Levels, InOrder, Reach, InOrderFrom, Lack, Late, Alone}
+use Rattle.bt_history.specs.declared.event.Action.TheVariants.{Release, Level, Levels, InOrder, Reach, InOrderFrom, Lack, Late, Alone, Lose, Discard}
 use Rattle.bt_history.specs.declared.event.Event.{Event}
 use Rattle.bt_history.specs.History.{History}
 
@@ -50,6 +51,14 @@ delaying w p begin reply = record { worker = w; action = Late p begin; reply = r
 -- w's peer has piece p no more
 abbrev pub lacking : ℕ → ℕ → Reply → Event
 lacking w p reply = record { worker = w; action = Lack p; reply = reply }
+
+-- w tells that piece p is lost
+abbrev pub losing : ℕ → ℕ → Event
+losing w p = record { worker = w; action = Lose p; reply = Failed }
+
+-- w tells that the block that begins there is bad
+abbrev pub discarding : ℕ → ℕ → ℕ → Event
+discarding w p begin = record { worker = w; action = Discard p begin; reply = Failed }
 
 -- what contracts see of an entry
 abbrev pub event_of : Entry → Event

@@ -3,7 +3,7 @@ use Rattle.std.specs.Prelude.{ℕ, ◌+◌, ◌==◌, Bool, true, false, not, �
 use Rattle.bt_history.specs.declared.call.Reply.{Reply}
 use Rattle.bt_history.specs.declared.call.Reply.TheVariants.{Request, Idle, NothingLeft}
 use Rattle.bt_history.specs.declared.event.Action.{Action}
-use Rattle.bt_history.specs.declared.event.Action.TheVariants.{Join, Choke, Arrived, Settle, Leave, Want, Release, Level, Levels, Lack, Late, Alone}
+use Rattle.bt_history.specs.declared.event.Action.TheVariants.{Join, Choke, Arrived, Settle, Leave, Want, Release, Level, Levels, Lack, Late, Alone, Lose, Discard}
 use Rattle.bt_history.specs.declared.event.Event.{Event}
 use Rattle.bt_history.specs.Setting.{Setting}
 use Rattle.bt_history.specs.History.{History, counts, stores}
@@ -39,6 +39,8 @@ unsettles (Settle p bytes) = true
 unsettles (Lack p) = true
 unsettles (Late p begin) = true
 unsettles (Alone alone) = true
+unsettles (Lose p) = true
+unsettles (Discard p begin) = true
 unsettles call = false
 
 -- the call stores a block that its own peer wasn't asked for, or not alone

@@ -9,7 +9,7 @@ use Rattle.bt_history.specs.declared.call.Reply.TheVariants.{Joined, Noted, Quie
 use Rattle.bt_history.specs.declared.call.Reply.TheVariants.{Completed, Dropped, Had, Failed, Refused}
 use Rattle.bt_history.specs.declared.event.Action.{Action}
 use Rattle.bt_history.specs.declared.event.Action.TheVariants.{Join, Bits, Have, Choke, Unchoke, Next, Arrived, Settle, Leave, Want, Haves, Depth}
-use Rattle.bt_history.specs.declared.event.Action.TheVariants.{Release, Level, Levels, InOrder, Reach, InOrderFrom, Lack, Late, Alone}
+use Rattle.bt_history.specs.declared.event.Action.TheVariants.{Release, Level, Levels, InOrder, Reach, InOrderFrom, Lack, Late, Alone, Lose, Discard}
 use Rattle.bt_history.specs.declared.event.Event.{Event}
 use Rattle.bt_history.specs.declared.rules.Rules.{Rules}
 use Rattle.bt_history.specs.Setting.{Setting, setting_of, usual_rules}
@@ -1754,6 +1754,95 @@ refusals_of_alone = example (setting_of torrent_two_blocks 1 usual_rules)
     ((0, entry 0 (Alone true) Quiet)
     ∷ (5, entry 0 (Bits (true ∷ true ∷ [])) (Refused LateBits)) ∷ [])
 
+-- 8: lost piece stays complete
+-- 7: loss needs a check
+abbrev lost_piece_is_asked_again : Example
+lost_piece_is_asked_again = example (setting_of torrent_one_piece 1 usual_rules)
+    (enters 0 (true ∷ [])
+    (entry 0 (Next 0) (Request (block_of 0 0 3))
+    ∷ entry 0 (Arrived 0 0 (97 ∷ 98 ∷ 99 ∷ [])) Completed
+    ∷ entry 0 (Settle 0 (97 ∷ 98 ∷ 99 ∷ [])) Had
+    ∷ entry 0 (Next 0) NothingLeft
+    ∷ entry 0 (Lose 0) Failed
+    ∷ entry 0 (Next 0) (Request (block_of 0 0 3))
+    ∷ entry 0 (Arrived 0 0 (97 ∷ 98 ∷ 99 ∷ [])) Completed
+    ∷ entry 0 (Settle 0 (97 ∷ 98 ∷ 99 ∷ [])) Had
+    ∷ entry 0 (Next 0) NothingLeft ∷ []))
+    ((8, entry 0 (Next 0) NothingLeft)
+    ∷ (7, entry 0 (Lose 0) (Refused NotWaiting)) ∷ [])
+
+-- 7: request in flight ends by a loss
+-- 7: lost piece is begun no more
+-- 8: lost block is dropped
+abbrev lost_with_a_block_in_flight : Example
+lost_with_a_block_in_flight = example (setting_of torrent_two_blocks 1 usual_rules)
+    (enters 0 (true ∷ true ∷ [])
+    (entry 0 (Next 0) (Request (block_of 0 0 16384))
+    ∷ entry 0 (Arrived 0 0 (replicate 16384 97)) Stored
+    ∷ entry 0 (Next 0) (Request (block_of 0 16384 16384))
+    ∷ entry 0 (Lose 0) Failed
+    ∷ entry 0 (Next 1) (Request (block_of 0 0 16384))
+    ∷ entry 0 (Arrived 0 0 (replicate 16384 97)) Stored ∷ []))
+    ((7, entry 0 (Next 1) (Request (block_of 0 16384 16384)))
+    ∷ (7, entry 0 (Next 1) (Request (block_of 1 0 16384)))
+    ∷ (8, entry 0 (Arrived 0 0 (replicate 16384 97)) Dropped) ∷ [])
+
+-- 9: discarded block is dropped
+-- 7: piece of a discarded block is passed by
+abbrev discarded_block_is_asked_again : Example
+discarded_block_is_asked_again = example (setting_of torrent_two_blocks 1 usual_rules)
+    (enters 0 (true ∷ true ∷ [])
+    (entry 0 (Next 0) (Request (block_of 0 0 16384))
+    ∷ entry 0 (Arrived 0 0 (replicate 16384 97)) Stored
+    ∷ entry 0 (Next 0) (Request (block_of 0 16384 16384))
+    ∷ entry 0 (Discard 0 0) Failed
+    ∷ entry 0 (Next 1) (Request (block_of 0 0 16384))
+    ∷ entry 0 (Arrived 0 16384 (replicate 16384 97)) Stored
+    ∷ entry 0 (Arrived 0 0 (replicate 16384 97)) Completed ∷ []))
+    ((9, entry 0 (Arrived 0 0 (replicate 16384 97)) Stored)
+    ∷ (7, entry 0 (Next 1) (Request (block_of 1 0 16384))) ∷ [])
+
+abbrev discarded_block_was_the_only_one : Example
+discarded_block_was_the_only_one = example (setting_of torrent_two_blocks 1 usual_rules)
+    (enters 0 (true ∷ true ∷ [])
+    (entry 0 (Next 0) (Request (block_of 0 0 16384))
+    ∷ entry 0 (Arrived 0 0 (replicate 16384 97)) Stored
+    ∷ entry 0 (Discard 0 0) Failed
+    ∷ entry 0 (Next 1) (Request (block_of 1 0 16384)) ∷ []))
+    []
+
+-- 3: settled though a block was discarded
+-- 6: block of a complete piece is discarded
+abbrev discarded_before_its_check : Example
+discarded_before_its_check = example (setting_of torrent_one_piece 1 usual_rules)
+    (entry 0 Join Joined
+    ∷ entry 0 (Arrived 0 0 (97 ∷ 98 ∷ 100 ∷ [])) Completed
+    ∷ entry 0 (Discard 0 0) Failed
+    ∷ entry 0 (Settle 0 (97 ∷ 98 ∷ 100 ∷ [])) (Refused NotWaiting)
+    ∷ entry 0 (Arrived 0 0 (97 ∷ 98 ∷ 99 ∷ [])) Completed
+    ∷ entry 0 (Settle 0 (97 ∷ 98 ∷ 99 ∷ [])) Had
+    ∷ entry 0 (Discard 0 0) (Refused NotWaiting) ∷ [])
+    ((3, entry 0 (Settle 0 (97 ∷ 98 ∷ 100 ∷ [])) Failed)
+    ∷ (6, entry 0 (Discard 0 0) Failed) ∷ [])
+
+-- 0: no such piece is lost
+-- 2: no such block is discarded
+-- 3: loss needs a peer
+-- 6: bitfield late by a loss
+abbrev refusals_of_losses : Example
+refusals_of_losses = example (setting_of torrent_short_last 1 usual_rules)
+    (entry 0 (Lose 3) (Refused NoSuchPiece)
+    ∷ entry 0 (Discard 3 0) (Refused NoSuchPiece)
+    ∷ entry 0 (Discard 0 1) (Refused NoSuchBlock)
+    ∷ entry 0 (Lose 0) Failed
+    ∷ entry 0 (Discard 0 0) Failed
+    ∷ entry 0 Join Joined
+    ∷ entry 0 (Bits (true ∷ true ∷ true ∷ [])) (Noted true) ∷ [])
+    ((0, entry 0 (Lose 3) Failed)
+    ∷ (2, entry 0 (Discard 0 1) Failed)
+    ∷ (3, entry 0 (Lose 0) (Refused NotJoined))
+    ∷ (6, entry 0 (Bits (true ∷ true ∷ true ∷ [])) (Refused LateBits)) ∷ [])
+
 abbrev pub first_examples : List Example
 first_examples =
     first_request
@@ -1788,13 +1877,13 @@ first_examples =
     ∷ asked_stays_asked
     ∷ released_is_asked_elsewhere
     ∷ released_in_endgame
+    ∷ released_piece_is_unbegun
+    ∷ released_is_asked_again
     ∷ []
 
 abbrev pub second_examples : List Example
 second_examples =
-    released_piece_is_unbegun
-    ∷ released_is_asked_again
-    ∷ released_arrives_after_all
+    released_arrives_after_all
     ∷ late_is_asked_elsewhere
     ∷ late_holds_up_endgame
     ∷ late_in_spite_of_one_asker
@@ -1821,14 +1910,14 @@ second_examples =
     ∷ peer_of_low_levels
     ∷ unwanted_by_level
     ∷ levels_of_none
+    ∷ want_after_levels
+    ∷ level_before_the_bits
+    ∷ endgame_of_all_levels
     ∷ []
 
 abbrev pub third_examples : List Example
 third_examples =
-    want_after_levels
-    ∷ level_before_the_bits
-    ∷ endgame_of_all_levels
-    ∷ asked_outlasts_its_level
+    asked_outlasts_its_level
     ∷ refusals_of_levels
     ∷ any_begun_piece_goes_on
     ∷ rarest_while_few_are_open
@@ -1852,15 +1941,15 @@ third_examples =
     ∷ shown_piece_holds_up_endgame
     ∷ lower_level_is_awaited_too
     ∷ slow_peer_gets_low_levels
+    ∷ reach_in_endgame
+    ∷ reach_goes_with_its_peer
+    ∷ refusals_of_reach_and_order
+    ∷ window_comes_in_order
     ∷ []
 
 abbrev pub fourth_examples : List Example
 fourth_examples =
-    reach_in_endgame
-    ∷ reach_goes_with_its_peer
-    ∷ refusals_of_reach_and_order
-    ∷ window_comes_in_order
-    ∷ window_told_anew
+    window_told_anew
     ∷ lacked_is_asked_elsewhere
     ∷ lack_makes_another_piece_rarest
     ∷ lack_of_the_only_piece
@@ -1882,6 +1971,12 @@ fourth_examples =
     ∷ alone_in_order
     ∷ two_work_alone
     ∷ refusals_of_alone
+    ∷ lost_piece_is_asked_again
+    ∷ lost_with_a_block_in_flight
+    ∷ discarded_block_is_asked_again
+    ∷ discarded_block_was_the_only_one
+    ∷ discarded_before_its_check
+    ∷ refusals_of_losses
     ∷ []
 
 abbrev pub examples : List Example

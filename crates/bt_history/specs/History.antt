@@ -5,7 +5,7 @@ use Rattle.bt_meta.specs.declared.block.Block.{Block}
 use Rattle.bt_history.specs.declared.call.Reply.{Reply}
 use Rattle.bt_history.specs.declared.call.Reply.TheVariants.{Cancel, Request, Stored, Completed, Had, Failed, Refused}
 use Rattle.bt_history.specs.declared.event.Action.{Action}
-use Rattle.bt_history.specs.declared.event.Action.TheVariants.{Arrived, Settle}
+use Rattle.bt_history.specs.declared.event.Action.TheVariants.{Arrived, Settle, Lose, Discard}
 use Rattle.bt_history.specs.declared.event.Event.{Event}
 
 -- the entries of a journal as contracts see them, the newest first
@@ -77,9 +77,25 @@ abbrev pub is_had : Reply → Bool
 is_had Had = true
 is_had reply = false
 
--- the entry is a check of piece p that failed
-abbrev pub failed : Event → ℕ → Bool
-failed e p = is_failed e.reply && settles e.action p
+-- the call frees block b where its reply is Failed: it tells of the block, or of the whole piece
+abbrev pub frees : Action → Block → Bool
+frees (Settle piece bytes) b = piece == b.piece
+frees (Lose piece) b = piece == b.piece
+frees (Discard piece begin) b = (piece == b.piece) && (begin == b.begin)
+frees action b = false
+
+-- the entry freed block b: the check of its piece failed, the piece was lost, or the block was discarded
+abbrev pub freed : Event → Block → Bool
+freed e b = is_failed e.reply && frees e.action b
+
+-- the call tells that piece p is lost
+abbrev pub loses : Action → ℕ → Bool
+loses (Lose piece) p = piece == p
+loses action p = false
+
+-- the entry lost piece p
+abbrev pub lost : Event → ℕ → Bool
+lost e p = is_failed e.reply && loses e.action p
 
 -- the entry is a check of piece p that passed
 abbrev pub passed : Event → ℕ → Bool

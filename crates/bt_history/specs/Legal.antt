@@ -13,7 +13,7 @@ use Rattle.bt_history.specs.declared.call.Reply.{Reply}
 use Rattle.bt_history.specs.declared.call.Reply.TheVariants.{Joined, Noted, Quiet, Cancel, Request, Stored, Completed, Dropped, Had, Failed, Refused}
 use Rattle.bt_history.specs.declared.event.Action.{Action}
 use Rattle.bt_history.specs.declared.event.Action.TheVariants.{Join, Bits, Have, Next, Arrived, Settle, Want, Haves, Depth, Release, Level, Levels}
-use Rattle.bt_history.specs.declared.event.Action.TheVariants.{InOrder, Reach, InOrderFrom, Lack, Late}
+use Rattle.bt_history.specs.declared.event.Action.TheVariants.{InOrder, Reach, InOrderFrom, Lack, Late, Lose, Discard}
 use Rattle.bt_history.specs.declared.rules.TheConstants.{MOST_LEVEL}
 use Rattle.bt_history.specs.declared.event.Event.{Event}
 use Rattle.bt_history.specs.Setting.{Setting, deepest_told, some_block_of, each_block_of, is_block}
@@ -60,6 +60,10 @@ no_count s flags = (not (length flags == piece_count s.torrent), WrongCount)
 abbrev pub no_piece : Setting → ℕ → Bool × Reason
 no_piece s p = (nat_le (piece_count s.torrent) p, NoSuchPiece)
 
+-- no block of the piece begins there
+abbrev pub no_block : Setting → ℕ → ℕ → Bool × Reason
+no_block s p begin = (not (some_block_of s.torrent p (λ b. b.begin == begin)), NoSuchBlock)
+
 -- a level is higher than there are
 abbrev pub no_level : ℕ → Bool × Reason
 no_level n = (nat_lt MOST_LEVEL n, WrongLevel)
@@ -80,7 +84,7 @@ causes s h w (Have p) = no_peer h w ∷ no_piece s p ∷ []
 causes s h w (Lack p) = no_peer h w ∷ no_piece s p ∷ []
 causes s h w (Arrived p begin bytes) =
     no_peer h w ∷ no_piece s p
-    ∷ (not (some_block_of s.torrent p (λ b. b.begin == begin)), NoSuchBlock)
+    ∷ no_block s p begin
     ∷ (not (some_block_of s.torrent p (λ b. (b.begin == begin) && (b.len == length bytes))), WrongLength) ∷ []
 causes s h w (Settle p bytes) =
     no_piece s p ∷ (not (full s h p) || had h p, NotWaiting) ∷ (not (same_bytes bytes (content s h p)), Stale) ∷ []
@@ -94,6 +98,8 @@ causes s h w (Levels levels) = no_count s levels ∷ no_levels levels ∷ []
 causes s h w (InOrder rising) = []
 causes s h w (Reach n) = no_peer h w ∷ no_level n ∷ []
 causes s h w (InOrderFrom n) = (nat_lt (MOST_LEVEL + 1) n, WrongLevel) ∷ []
+causes s h w (Lose p) = no_piece s p ∷ []
+causes s h w (Discard p begin) = no_piece s p ∷ no_block s p begin ∷ (had h p, NotWaiting) ∷ []
 causes s h w call = no_peer h w ∷ []
 
 -- why the call is refused, if it is
@@ -128,6 +134,8 @@ answer s h w (Haves flags) = Exactly (Noted (interesting_after s h w (Haves flag
 answer s h w (Next word) = next_answer s h w
 answer s h w (Arrived p begin bytes) = arrived_answer s h p begin
 answer s h w (Settle p bytes) = settled_answer s h p
+answer s h w (Lose p) = Exactly Failed
+answer s h w (Discard p begin) = Exactly Failed
 answer s h w call = Exactly Quiet
 
 -- a refusal for this reason, if there is one, else the answer

@@ -14,4 +14,5 @@ pub mod Entries
 pub mod Logs
 pub mod Examples
 pub mod Before
+pub mod Losses
 pub mod Epochs

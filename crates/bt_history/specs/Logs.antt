@@ -12,7 +12,7 @@ use Rattle.bt_history.specs.declared.mark.CallMark.TheVariants.{Release, Level, 
 use Rattle.bt_history.specs.declared.mark.Mark.{Mark}
 use Rattle.bt_history.specs.History.{History}
 
--- a call without its bytes, its bitfield and its levels
+-- a call without its bytes, its bitfield and its levels. What frees blocks with no check is marked as a check: no journal has it
 abbrev pub call_mark : Action → CallMark
 call_mark actions.Join = Join
 call_mark (actions.Bits flags) = Bits
@@ -35,6 +35,8 @@ call_mark (actions.InOrderFrom n) = InOrderFrom n
 call_mark (actions.Lack p) = Lack p
 call_mark (actions.Late p begin) = Late p begin
 call_mark (actions.Alone alone) = Alone alone
+call_mark (actions.Lose p) = Settle p
+call_mark (actions.Discard p begin) = Settle p
 
 -- the mark of an entry that so many entries are older than
 abbrev pub mark_of : ℕ → Event → Mark

@@ -8,14 +8,14 @@ use Rattle.bt_history.specs.declared.event.Action.TheVariants.{Want, Level, Leve
 use Rattle.bt_history.specs.declared.rules.TheConstants.{MOST_LEVEL, USUAL_LEVEL}
 use Rattle.bt_history.specs.Counting.{all_below, any_below, count_below}
 use Rattle.bt_history.specs.Setting.{Setting, some_block_of, each_block_of, some_block, each_block}
-use Rattle.bt_history.specs.History.{History, counted_call, stored, failed, passed}
+use Rattle.bt_history.specs.History.{History, counted_call, stored, freed, lost, passed}
 use Rattle.bt_history.specs.Peers.{flag, joined, shows, is_open, expected, overdue, reach, alone}
 
--- the bytes of block b, if it is held: stored, and its piece has not failed a check since
+-- the bytes of block b, if it is held: stored, and not freed since
 unfoldable pub kept : History → Block → Option (List ℕ)
 kept [] b = None
 kept (e ∷ h) b =
-    if failed e b.piece then None else if is_some (stored e b) then stored e b else kept h b
+    if freed e b then None else if is_some (stored e b) then stored e b else kept h b
 
 -- block b is held
 abbrev pub held : History → Block → Bool
@@ -25,7 +25,7 @@ held h b = is_some (kept h b)
 unfoldable pub sender : History → Block → Option ℕ
 sender [] b = None
 sender (e ∷ h) b =
-    if failed e b.piece then None else if is_some (stored e b) then Some e.worker else sender h b
+    if freed e b then None else if is_some (stored e b) then Some e.worker else sender h b
 
 -- the bytes of block b, or none
 abbrev pub content_of_block : History → Block → List ℕ
@@ -44,10 +44,10 @@ joined_below (suc n) bytes = joined_below n bytes ++ bytes n
 abbrev pub content : Setting → History → ℕ → List ℕ
 content s h p = joined_below (block_count s.torrent p) (λ k. content_of_block h (block s.torrent p k))
 
--- piece p was checked, and had its hash
+-- piece p was checked, had its hash, and was not lost since
 unfoldable pub had : History → ℕ → Bool
 had [] p = false
-had (e ∷ h) p = passed e p || had h p
+had (e ∷ h) p = passed e p || (not (lost e p) && had h p)
 
 -- block b is asked of some peer that isn't late with it
 abbrev pub asked_of_some : Setting → History → Block → Bool

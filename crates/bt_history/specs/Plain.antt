@@ -17,7 +17,7 @@ use Rattle.bt_history.specs.Pieces.{held, had, had_count}
 use Rattle.bt_history.specs.Next.{Answer, Exactly, CancelOf, RequestOf}
 use Rattle.bt_history.specs.Legal.{first_cause, no_peer, no_count, refusal, answer, answer_unless, Permits}
 use Rattle.bt_history.specs.Before.{asked_before, shows_before, shows_then, late_before, chosen_before, is_release, is_depth, is_haves, is_levelling}
-use Rattle.bt_history.specs.Before.{is_delay, is_reach, tells_alone}
+use Rattle.bt_history.specs.Before.{is_delay, is_loss, is_reach, tells_alone}
 
 -- ---- peers, blocks and pieces
 
@@ -127,7 +127,8 @@ abbrev pub is_plain : Action → Bool
 is_plain call =
     not (is_release call)
     && (not (is_depth call)
-    && (not (is_haves call) && (not (is_levelling call) && (not (is_reach call) && (not (is_delay call) && not (tells_alone call))))))
+    && (not (is_haves call) && (not (is_levelling call) && (not (is_reach call) && (not (is_delay call)
+    && (not (tells_alone call) && not (is_loss call)))))))
 
 -- the entry might come after the history: a plain call of one of the desk's workers, and its reply is the refusal or one of the answer
 unfoldable pub IsAllowedBefore : Setting → History → Event → Type 0

@@ -3,7 +3,8 @@
 use crate::call::Reply;
 use std::collections::LinkedList;
 
-/// A call by its plain values. A verdict is its piece with the joined bytes that were hashed.
+/// A call by its plain values. A verdict is its piece with the joined bytes that were hashed. `Lose` and `Discard` are told to a picker or a
+/// keeper alone: no [`Call`](crate::Call) is one of them, so no journal has them.
 pub enum Action {
     Join,
     Bits(LinkedList<bool>),
@@ -42,6 +43,11 @@ pub enum Action {
         begin: u32,
     },
     Alone(bool),
+    Lose(u32),
+    Discard {
+        piece: u32,
+        begin: u32,
+    },
 }
 
 /// An entry by its plain values.

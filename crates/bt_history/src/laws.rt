@@ -8,7 +8,9 @@ ghost use Rattle.bt_meta.specs.Layout.{hash_of};
 ghost use Rattle.bt_history.specs.declared.call.Reply.{Reply};
 ghost use Rattle.bt_history.specs.declared.rules.TheConstants.{MOST_LEVEL};
 ghost use Rattle.bt_history.specs.Setting.{deepest_line, is_block, setting_of};
-ghost use Rattle.bt_history.specs.Entries.{delaying, event_of, giving_up, history_of, lacking};
+ghost use Rattle.bt_history.specs.Entries.{delaying, discarding, event_of, giving_up, history_of, lacking, losing};
+ghost use Rattle.bt_history.specs.Losses.{LeavesPeers};
+ghost use Rattle.bt_history.specs.Before.{had_before, kept_before, never_loses, sender_before};
 ghost use Rattle.bt_history.specs.Before.{asked_before, chosen_before, doubles_before, late_before, next_before, outstanding_before, shows_before};
 ghost use Rattle.bt_history.specs.Before.{never_adds, never_deepens, never_levels, never_releases, next_strict, next_unrushed, endgame_of_all};
 ghost use Rattle.bt_history.specs.Before.{doubles_unreached, in_order_before, never_reaches, never_windows, next_unwindowed, usable_unreached};
@@ -28,6 +30,7 @@ ghost use Rattle.bt_history.specs.Plain.{IsLegalBefore};
 ghost use Rattle.bt_history.specs.Assured.{Assures};
 
 use crate::call::{Entry, Reply};
+use crate::event::Event;
 use crate::rules::Rules;
 use bt_meta::{Block, Torrent};
 
@@ -261,6 +264,46 @@ pub fn lack_takes_one(
     ensures level { level (lacking worker piece (Reply.Noted interests) ∷ history_of journal.now) block.piece ≡ level (history_of journal.now) block.piece }
     ensures order { order_from (lacking worker piece (Reply.Noted interests) ∷ history_of journal.now) ≡ order_from (history_of journal.now) }
     ensures alone { alone (lacking worker piece (Reply.Noted interests) ∷ history_of journal.now) other ≡ alone (history_of journal.now) other }
+{}
+
+/// A piece that is lost is had no more, and none of its blocks is held. All other pieces and blocks are as they were, with their bytes and who sent
+/// them. So is all that is known of the peers, with what is asked of them, and the levels and the order.
+pub fn lose_takes_one(older: &[Event], worker: u32, piece: u32, other: u32, block: Block)
+    ensures had { had (losing worker piece ∷ older.now) block.piece ≡ (not (piece == block.piece) && had older.now block.piece) }
+    ensures bytes { kept (losing worker piece ∷ older.now) block ≡ (if piece == block.piece then None else kept older.now block) }
+    ensures sender { sender (losing worker piece ∷ older.now) block ≡ (if piece == block.piece then None else sender older.now block) }
+    ensures peers { LeavesPeers (losing worker piece) older.now other block }
+{}
+
+/// A block that is discarded is held no more. All other blocks are as they were, with their bytes and who sent them, and so are the pieces that
+/// are had. So is all that is known of the peers, with what is asked of them, and the levels and the order.
+pub fn discard_frees_one(
+    older: &[Event],
+    worker: u32,
+    piece: u32,
+    begin: u32,
+    other: u32,
+    block: Block,
+)
+    ensures had { had (discarding worker piece begin ∷ older.now) block.piece ≡ had older.now block.piece }
+    ensures bytes { kept (discarding worker piece begin ∷ older.now) block
+        ≡ (if same_begin (place_at piece begin) block then None else kept older.now block) }
+    ensures sender { sender (discarding worker piece begin ∷ older.now) block
+        ≡ (if same_begin (place_at piece begin) block then None else sender older.now block) }
+    ensures peers { LeavesPeers (discarding worker piece begin) older.now other block }
+{}
+
+/// Where no piece was lost and no block discarded, what is had and held, and who sent it, is what it was before there were such calls.
+pub fn never_lost_is_as_before(older: &[Event], block: Block)
+    requires { IsTrue (never_loses older.now) }
+    ensures had { had older.now block.piece ≡ had_before older.now block.piece }
+    ensures bytes { kept older.now block ≡ kept_before older.now block }
+    ensures sender { sender older.now block ≡ sender_before older.now block }
+{}
+
+/// That is so of each journal: no entry of one loses a piece or discards a block.
+pub fn journals_lose_nothing(journal: &[Entry])
+    ensures { never_loses (history_of journal.now) ≡ true }
 {}
 
 /// Where no block was released, what is asked is what it was before there was a release, and so are the lines of all peers.

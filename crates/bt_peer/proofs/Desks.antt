@@ -1,7 +1,7 @@
 -- What a place at a desk gains by an entry of its worker, and by news.
 use Rattle.std.proofs.Common.{◌≡◌, ◌≢◌, ℕ, Bool, true, false, List, [], ◌∷◌, ◌++◌, length, refl, sym, ap, subst, ◌∙◌, inl, inr, ◌==◌, ◌<◌, eq-eqb}
 use Rattle.std.proofs.Common.{arith}
-use Rattle.std.specs.Prelude.{if◌then◌else◌, ◌||◌, ◌&&◌, nat_lt, slice_index_or, slice_set}
+use Rattle.std.specs.Prelude.{if◌then◌else◌, ◌||◌, ◌&&◌, nat_lt, not, slice_index_or, slice_set}
 use Rattle.std.proofs.lemmas.List.{append-nil, get_or-set_other}
 use Rattle.std.proofs.lemmas.Grind.{get_or-set_at}
 use Rattle.std.proofs.lemmas.Bool.Decides.{nat_tests}
@@ -11,7 +11,9 @@ use Rattle.bt_history.specs.declared.call.Reply.{Reply}
 use Rattle.bt_history.specs.declared.event.Action.{Action, Action}
 use Rattle.bt_history.specs.declared.event.Event.{Event as Entry}
 use Rattle.bt_history.specs.declared.event.Action.TheVariants as actions
+use Rattle.bt_history.specs.Before.{is_loss}
 use Rattle.bt_history.specs.History.{History, passed}
+use Rattle.bt_history.proofs.Losing.{lost_none}
 use Rattle.bt_history.specs.Logs.{answers}
 use Rattle.bt_history.specs.declared.mark.CallMark.TheVariants as marks
 use Rattle.bt_history.specs.Pieces.{content, had}
@@ -48,10 +50,10 @@ or-true : (a b : Bool) → b ≡ true → (a || b) ≡ true
 or-true true b is = refl
 or-true false b is = is
 
--- a piece that is had stays so
-pub had-more : (h : History) (e : Entry) (piece : ℕ) → had h piece ≡ true → had (e ∷ h) piece ≡ true
+-- a piece that is had stays so, where none is lost
+pub had-more : (h : History) (e : Entry) (piece : ℕ) → is_loss e.action ≡ false → had h piece ≡ true → had (e ∷ h) piece ≡ true
 unfolding had
-had-more h e piece is = or-true (passed e piece) (had h piece) is
+had-more h e piece keeps is = or-true (passed e piece) _ (ap (λ (x : Bool). not x && had h piece) (lost_none e piece keeps) ∙ is)
 
 kept_by : (same : Bool) (h : History) (e : Entry) (worker other : ℕ) → (other == worker) ≡ same → (e.worker == worker) ≡ true →
     (if other == worker then [] else calls_in (e ∷ h) other) ≡ (if other == worker then [] else calls_in h other)
@@ -79,9 +81,9 @@ finished_on h e = (finished_by e, refl)
 
 -- a call of the worker is entered
 pub called : (lent : List GName) (old new : DeskState) (worker : ℕ) (action : Action) (reply : Reply) (told : List Bool) (lacked : Bool) →
-    Enters old new (record { worker = worker; action = action; reply = reply }) →
+    is_loss action ≡ false → Enters old new (record { worker = worker; action = action; reply = reply }) →
     Gains (desk_record lent old worker told lacked) (Called action reply ∷ []) (desk_record lent new worker told lacked)
-called lent old new worker action reply told lacked enters =
+called lent old new worker action reply told lacked keeps enters =
     let h = old.history in
     let e : Entry = record { worker = worker; action = action; reply = reply } in
     let is : new ≡ record { setting = old.setting; history = e ∷ h } =
@@ -96,7 +98,7 @@ called lent old new worker action reply told lacked enters =
         setting = refl;
         calls = calls_in-own h e worker own;
         others = λ other. others-kept h e worker other own;
-        had = λ piece. and-more (nat_lt piece (piece_count old.setting.torrent)) (had h piece) (had (e ∷ h) piece) (had-more h e piece);
+        had = λ piece. and-more (nat_lt piece (piece_count old.setting.torrent)) (had h piece) (had (e ∷ h) piece) (had-more h e piece keeps);
         in_order = finished_on h e;
         told = λ piece. refl;
         finished = tt;
@@ -125,7 +127,7 @@ settled_if true lent old new worker piece reply told lacked enters =
     let fits : answers (marks.Settle piece) reply ≡ true = allowed_answers old.setting old.history e enters.allowed in
     let hashed = content old.setting old.history piece in
     let act : Act = Called (actions.Settle piece hashed) reply in
-    (act ∷ [], (inr (hashed, (reply, (fits, refl))), called lent old new worker e.action reply told lacked enters))
+    (act ∷ [], (inr (hashed, (reply, (fits, refl))), called lent old new worker e.action reply told lacked refl enters))
 settled_if false lent old new worker piece reply told lacked unchanged =
     let same = subst (λ (desk : DeskState). Gains (desk_record lent old worker told lacked) [] (desk_record lent desk worker told lacked))
     (sym unchanged.0) (Gains-none (desk_record lent old worker told lacked)) in

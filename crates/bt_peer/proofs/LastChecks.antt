@@ -27,13 +27,14 @@ use Rattle.bt_peer.specs.Course.{Course, IsCourse, SessionBy, ConductBy, Devices
 use Rattle.bt_peer.specs.Course.{MayTakeTurns, TookTurns, course_of}
 use Rattle.bt_peer.proofs.Conduct.{Conducts-none, Conducts-draws}
 use Rattle.bt_peer.proofs.EachStream.{ends_count}
+use Rattle.bt_history.specs.Before.{is_loss}
 use Rattle.bt_peer.proofs.Desks.{calls_in-other, and-more, finished_on, had-more}
 use Rattle.bt_peer.proofs.Course.{Keeps-join, others_keep}
 use Rattle.bt_peer.proofs.Stretches.{Extends-join, Extends-refl, Gains-none}
 
 -- an entry of a worker leaves the others alone
-entered_leaves : (old new : DeskState) (e : Entry) → Enters old new e → LeavesOthers e.worker old new
-entered_leaves old new e enters =
+entered_leaves : (old new : DeskState) (e : Entry) → is_loss e.action ≡ false → Enters old new e → LeavesOthers e.worker old new
+entered_leaves old new e keeps enters =
     let h = old.history in
     let after : DeskState = record { setting = old.setting; history = e ∷ h } in
     let is : new ≡ after =
@@ -44,7 +45,7 @@ entered_leaves old new e enters =
       calls = λ other. λ apart.
           let differs : (e.worker == other) ≡ false = grind (arith, nat_tests) in
           calls_in-other h e other differs;
-      had = λ piece. and-more (nat_lt piece (piece_count old.setting.torrent)) (had h piece) (had (e ∷ h) piece) (had-more h e piece);
+      had = λ piece. and-more (nat_lt piece (piece_count old.setting.torrent)) (had h piece) (had (e ∷ h) piece) (had-more h e piece keeps);
       in_order = finished_on h e;
     } in
     subst (LeavesOthers e.worker old) (sym is) left
@@ -67,7 +68,7 @@ LeavesOthers-join worker a b c first then = record {
 
 one_leaves : (waiting : Bool) (desk : DeskState) (worker piece : ℕ) (new : DeskState) → FinishesOne waiting desk worker piece new →
     LeavesOthers worker desk new
-one_leaves true desk worker piece new settles = entered_leaves desk new (settling desk.setting desk.history worker piece settles.0) settles.1
+one_leaves true desk worker piece new settles = entered_leaves desk new (settling desk.setting desk.history worker piece settles.0) refl settles.1
 one_leaves false desk worker piece new same = subst (LeavesOthers worker desk) (sym same) (LeavesOthers-refl worker desk)
 
 -- the last checks leave the others alone

@@ -17,6 +17,7 @@ use Rattle.bt_picker.specs.Positions.{DeskState, Gains as Enters}
 use Rattle.bt_peer.specs.News.{AreTold, FindsUntold, IsLesser, has_told}
 use Rattle.bt_peer.specs.Places.{Extends}
 use Rattle.bt_peer.specs.Serial.{had_at}
+use Rattle.bt_history.specs.Before.{never_loses}
 use Rattle.bt_peer.proofs.Desks.{finished_on, told_by}
 
 -- before any was told
@@ -36,10 +37,10 @@ told_later told count old new more are =
     }
 
 -- a piece that was found is finished
-pub untold_had : (told : List Bool) (h : History) (piece : ℕ) → FindsUntold told (finished h) (length (finished h)) (Some piece) →
+pub untold_had : (told : List Bool) (h : History) (piece : ℕ) → never_loses h ≡ true → FindsUntold told (finished h) (length (finished h)) (Some piece) →
     had h piece ≡ true
-untold_had told h piece finds =
-    subst (λ (p : ℕ). had h p ≡ true) finds.2.2 (finished_had h finds.2.0 finds.2.1)
+untold_had told h piece keeps finds =
+    subst (λ (p : ℕ). had h p ≡ true) finds.2.2 (finished_had h finds.2.0 keeps finds.2.1)
 
 -- where none was found each finished piece was told
 pub none_untold : (told : List Bool) (h : History) → FindsUntold told (finished h) (length (finished h)) None → (piece : ℕ) →
@@ -71,11 +72,11 @@ told_settled false told count old new worker piece reply same are =
     subst (λ (desk : DeskState). AreTold told count (finished desk.history)) (sym same.0) are
 
 -- the desk has the piece that was found
-pub found_had : (desk : DeskState) (told : List Bool) (piece : ℕ) → length told ≡ piece_count desk.setting.torrent →
+pub found_had : (desk : DeskState) (told : List Bool) (piece : ℕ) → never_loses desk.history ≡ true → length told ≡ piece_count desk.setting.torrent →
     FindsUntold told (finished desk.history) (length (finished desk.history)) (Some piece) → had_at desk piece ≡ true
-found_had desk told piece count finds =
+found_had desk told piece keeps count finds =
     let within : nat_lt piece (piece_count desk.setting.torrent) ≡ true = grind (arith, nat_tests, finds.0, count) in
-    and_from (nat_lt piece (piece_count desk.setting.torrent)) (had desk.history piece) within (untold_had told desk.history piece finds)
+    and_from (nat_lt piece (piece_count desk.setting.torrent)) (had desk.history piece) within (untold_had told desk.history piece keeps finds)
 
 -- where none was found each piece that the desk has was told
 pub all_told : (desk : DeskState) (told : List Bool) → length told ≡ piece_count desk.setting.torrent →

@@ -2,6 +2,7 @@
 
 ghost use Rattle.std.specs.Prelude.{◌≡◌, ◌<◌, ◌∷◌, ℕ, List, [], length, OnOk, OnErr, true, false, slice_index_or, IfSome, IfNone};
 ghost use Rattle.bt_meta.specs.Layout.{piece_count};
+ghost use Rattle.bt_history.specs.Before.{never_loses};
 ghost use Rattle.bt_history.specs.Finished.{finished};
 ghost use Rattle.bt_history.specs.Pieces.{had};
 ghost use Rattle.bt_history.specs.declared.call.Reply.{Reply};
@@ -137,7 +138,8 @@ impl<'a> Place for DeskPlace<'a> {
 /// The least of the finished pieces that wasn't told, where the first so many of them were. Goes over the others alone.
 fn first_untold(desk: &Desk, told: &Bitfield, seen: usize) -> Option<u32>
     requires { AreTold told.now seen (finished desk.now.history) }
-    ensures { FindsUntold told.now (finished desk.now.history) (length (finished desk.now.history)) result }
+    ensures found { FindsUntold told.now (finished desk.now.history) (length (finished desk.now.history)) result }
+    ensures kept { never_loses desk.now.history ≡ true }
 {
     let pieces = desk.finished();
     let mut least = None;

@@ -15,7 +15,7 @@ use Rattle.bt_history.specs.declared.event.Action.TheVariants.{Arrived}
 use Rattle.bt_history.specs.declared.event.Event.{Event}
 use Rattle.bt_history.specs.Entries.{event_of, history_of}
 use Rattle.bt_history.specs.Setting.{Setting, some_block_of, each_block_of}
-use Rattle.bt_history.specs.History.{History, stores, stored, bytes_for, failed, is_failed, is_had, settles}
+use Rattle.bt_history.specs.History.{History, bytes_for, freed, frees, is_failed, is_had, loses, settles, stored, stores}
 use Rattle.bt_history.specs.Pieces.{kept, held, full, had}
 use Rattle.bt_history.specs.Next.{Exactly}
 use Rattle.bt_history.specs.Legal.{IsLegal, IsAllowed, Permits, refusal, answer, arrived_answer}
@@ -52,10 +52,10 @@ others_held s h p begin r completed is =
     by_cases false true h = refl
     by_cases false false h = absurd (cc (completed, h))
 
--- a block that an entry stored, or that was held before, is held unless its piece failed
+-- a block that an entry stored, or that was held before, is held unless the entry freed it
 held_by : (h : History) (e : Event) (b : Block) → is_failed e.reply ≡ false → (is_some (stored e b) || held h b) ≡ true → held (e ∷ h) b ≡ true
 unfolding kept
-held_by h e b lasting is = by_cases (failed e b.piece) (stored e b) (ap (λ (x : Bool). x && settles e.action b.piece) lasting) is where
+held_by h e b lasting is = by_cases (freed e b) (stored e b) (ap (λ (x : Bool). x && frees e.action b) lasting) is where
   by_cases : (x : Bool) (o : Option (List ℕ)) → x ≡ false → (is_some o || held h b) ≡ true →
       is_some (if x then None else if is_some o then o else kept h b) ≡ true
   by_cases true o off some = absurd (cc off)
@@ -100,5 +100,6 @@ completed_waits s h e p begin bytes legal allowed call completed =
     let not_had : had h p ≡ false =
     false_from_ne_true (had h p) (λ is. true≢false (sym (had_full s h p arrival.index legal is arrival.within) ∙ unheld)) in
     let not_passed : (is_had e.reply && settles e.action p) ≡ false = ap (λ (r : Reply). is_had r && settles e.action p) completed in
+    let not_lost : (is_failed e.reply && loses e.action p) ≡ false = ap (λ (r : Reply). is_failed r && loses e.action p) completed in
     three (nat_lt p (piece_count s.torrent)) _ _ (lt-ltb p (piece_count s.torrent) arrival.piece) full_now
-    (ap (λ (x : Bool). x || had h p) not_passed ∙ not_had)
+    ((λ i. not_passed i || (not (not_lost i) && had h p)) ∙ not_had)

@@ -1,7 +1,7 @@
 -- After each call, refused or not, what is kept is what is held.
 use Rattle.std.proofs.Common.{◌≡◌, ◌≢◌, ◌<◌, ◌≤◌, ◌/◌, ℕ, Bool, true, false, ◌||◌, List, [], ◌∷◌, length, get_or, set, refl, ap, sym, ◌∙◌, subst, arith}
 use Rattle.std.specs.Prelude.{if◌then◌else◌, nat_lt, replicate}
-use Rattle.std.proofs.lemmas.Bool.{eq-eqb, false≢true, le-ltb, lt-ltb}
+use Rattle.std.proofs.lemmas.Bool.{eq-eqb, false_from_ne_true, false≢true, le-ltb, lt-ltb}
 use Rattle.std.specs.Cmp.Lexicographic.{same_text}
 use Rattle.sha1.specs.Sha1.{sha1}
 use Rattle.bt_meta.specs.Layout.{block_count, block_size, hash_of, piece_count}
@@ -10,12 +10,12 @@ use Rattle.bt_history.specs.declared.call.Reason.TheVariants.{NotJoined}
 use Rattle.bt_history.specs.declared.call.Reply.{Reply}
 use Rattle.bt_history.specs.declared.call.Reply.TheVariants.{Failed, Had, Refused}
 use Rattle.bt_history.specs.declared.event.Action.{Action}
-use Rattle.bt_history.specs.declared.event.Action.TheVariants.{Arrived, Settle}
+use Rattle.bt_history.specs.declared.event.Action.TheVariants.{Arrived, Settle, Lose, Discard}
 use Rattle.bt_history.specs.declared.event.Event.{Event}
 use Rattle.bt_history.specs.History.{is_failed, is_had, stores}
 use Rattle.bt_history.specs.Pieces.{content}
 use Rattle.bt_history.specs.Setting.{Setting}
-use Rattle.bt_history.proofs.Allowed.{no_cause, passed_hash}
+use Rattle.bt_history.proofs.Allowed.{failed_reply, no_cause, passed_hash}
 use Rattle.bt_history.specs.Picks.{IsPicked}
 use Rattle.bt_history.proofs.Arrivals.{ArrivalFacts, arrival_facts}
 use Rattle.bt_history.proofs.Picks.{same_reply}
@@ -25,6 +25,7 @@ use Rattle.bt_picker.specs.Tables.{edit}
 use Rattle.bt_picker.specs.Told.{Settles, SettlesAs, Tells, TellsIf, action_told, telling}
 use Rattle.bt_picker.specs.declared.told.Told.{Told}
 use Rattle.bt_picker.specs.declared.told.Told.TheVariants as kinds
+use Rattle.bt_picker.proofs.Entered.{discard_facts, loss_piece}
 use Rattle.bt_picker.proofs.Tabled.{edit_same}
 use Rattle.bt_picker.specs.Stashes.{IsStash, Rows, restashed_by, roomed, with_room}
 use Rattle.bt_picker.proofs.Stashing.{restash, storing_counts}
@@ -37,6 +38,8 @@ entry w a reply = record { worker = w; action = a; reply = reply }
 unstashed : (s : Setting) (rows : Rows) (reason : Reason) (a : Action) → restashed_by s rows (Refused reason) a ≡ rows
 unstashed s rows reason (Arrived p begin bytes) = refl
 unstashed s rows reason (Settle p bytes) = refl
+unstashed s rows reason (Lose p) = refl
+unstashed s rows reason (Discard p begin) = refl
 unstashed s rows reason a = refl
 
 -- one more entry
@@ -64,18 +67,22 @@ told_stash old new rows w a reply is tells = by_number (nat_lt w old.setting.wor
 abbrev kept_by : Setting → ℕ → ℕ → List ℕ → List (List ℕ) → List (List ℕ)
 kept_by s p begin came row = set (with_room (block_count s.torrent p) row) (begin / block_size) came
 
--- where no block is stored the rows stay
+-- where no block is stored, and none is freed, the rows stay
 pub plain_stash : (old new : DeskState) (rows : Rows) (w : ℕ) (told : Told) (reply : Reply)
-    → ((piece begin : ℕ) (bytes : _) → told ≡ kinds.Arrived piece begin bytes → stores reply ≡ false) → IsStash old.setting old.history rows
+    → ((piece begin : ℕ) (bytes : _) → told ≡ kinds.Arrived piece begin bytes → stores reply ≡ false)
+    → ((piece : ℕ) → told ≢ kinds.Lose piece) → ((piece begin : ℕ) → told ≢ kinds.Discard piece begin) → IsStash old.setting old.history rows
     → Tells old new (telling w told reply) → IsStash new.setting new.history rows
-plain_stash old new rows w told reply plain is tells =
-    subst (IsStash new.setting new.history) (left told plain) (told_stash old new rows w (action_told told) reply is tells)
+plain_stash old new rows w told reply plain no_loss no_discard is tells =
+    subst (IsStash new.setting new.history) (left told plain no_loss no_discard) (told_stash old new rows w (action_told told) reply is tells)
   where
     left : (t : Told) → ((piece begin : ℕ) (bytes : _) → t ≡ kinds.Arrived piece begin bytes → stores reply ≡ false)
+        → ((piece : ℕ) → t ≢ kinds.Lose piece) → ((piece begin : ℕ) → t ≢ kinds.Discard piece begin)
         → restashed_by old.setting rows reply (action_told t) ≡ rows
-    left (kinds.Arrived piece begin bytes) plain =
+    left (kinds.Arrived piece begin bytes) plain no_loss no_discard =
         ap (λ (x : Bool). if x then edit rows piece (kept_by old.setting piece begin bytes.now) else rows) (plain piece begin bytes refl)
-    left t plain = refl
+    left (kinds.Lose piece) plain no_loss no_discard = absurd (no_loss piece refl)
+    left (kinds.Discard piece begin) plain no_loss no_discard = absurd (no_discard piece begin refl)
+    left t plain no_loss no_discard = refl
 
 -- what is no refusal has an entry
 told_gains : (old new : DeskState) (e : Event) → ((reason : Reason) → e.reply ≢ Refused reason) → Tells old new e → Gains old new e
@@ -97,6 +104,24 @@ known_keeps old new w a one other lt picked tells =
     let gains = subst (λ (x : Bool). TellsIf x old new (entry w a other)) (lt-ltb w old.setting.workers lt) tells in
     ap (λ (r : Reply). stores r)
     (same_reply old.setting old.history (entry w a one) (entry w a other) refl refl picked gains.picked)
+
+-- what is lost is a piece, and what is discarded is of one
+pub lost_within : (old new : DeskState) (w p : ℕ) (reply : Reply) → reply ≡ Failed → Tells old new (entry w (Lose p) reply)
+    → p < piece_count old.setting.torrent
+lost_within old new w p reply fails tells =
+    let counted : (reason : Reason) → reply ≢ Refused reason = λ reason refused. absurd (cc (fails, refused)) in
+    let gains = told_gains old new (entry w (Lose p) reply) counted tells in
+    loss_piece old.setting old.history w p (no_cause old.setting old.history (entry w (Lose p) reply) counted gains.allowed)
+
+pub discarded_within : (old new : DeskState) (w p begin : ℕ) (reply : Reply) → reply ≡ Failed → Tells old new (entry w (Discard p begin) reply)
+    → p < piece_count old.setting.torrent
+discarded_within old new w p begin reply fails tells =
+    let counted : (reason : Reason) → reply ≢ Refused reason = λ reason refused. absurd (cc (fails, refused)) in
+    let gains = told_gains old new (entry w (Discard p begin) reply) counted tells in
+    (discard_facts old.setting old.history w p begin (no_cause old.setting old.history (entry w (Discard p begin) reply) counted gains.allowed)).0
+
+pub not_failed : (reply : Reply) → reply ≢ Failed → is_failed reply ≡ false
+not_failed reply other = false_from_ne_true (is_failed reply) (λ is. other (failed_reply reply is))
 
 -- ---- a block that came
 

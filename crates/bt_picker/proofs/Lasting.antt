@@ -9,7 +9,7 @@ use Rattle.bt_meta.specs.declared.block.Block.{Block}
 use Rattle.bt_meta.specs.Layout.{block, block_count}
 use Rattle.bt_history.specs.declared.event.Action.TheVariants.{Settle}
 use Rattle.bt_history.specs.declared.event.Event.{Event}
-use Rattle.bt_history.specs.History.{History, is_failed, settles, stored}
+use Rattle.bt_history.specs.History.{History, frees, is_failed, stored}
 use Rattle.bt_history.specs.Legal.{IsLegal, same_bytes}
 use Rattle.bt_history.specs.Pieces.{content, content_of_block, held, kept}
 use Rattle.bt_history.specs.Setting.{Setting}
@@ -55,7 +55,7 @@ unfolding kept
 kept_after s h e b legal passes is = ⊎_elim
     (λ (none : stored e b ≡ None).
     ap (λ (x : Bool). if x then None else if is_some (stored e b) then stored e b else kept h b)
-    (and_left (is_failed e.reply) (settles e.action b.piece) passes)
+    (and_left (is_failed e.reply) (frees e.action b) passes)
     ∙ ap (λ (o : Option (List ℕ)). if is_some o then o else kept h b) none)
     (λ (some : is_some (stored e b) ≡ true). absurd (false≢true (sym (stored_unheld s h e b legal.1 some) ∙ is)))
     (stored_cases e b)

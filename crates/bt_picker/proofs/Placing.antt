@@ -12,7 +12,7 @@ use Rattle.bt_history.specs.declared.event.Action.{Action}
 use Rattle.bt_history.specs.declared.event.Action.TheVariants.{Arrived}
 use Rattle.bt_history.specs.declared.event.Event.{Event}
 use Rattle.bt_history.specs.Setting.{Setting}
-use Rattle.bt_history.specs.History.{History, bytes_for, failed, settles, stored, stores}
+use Rattle.bt_history.specs.History.{History, bytes_for, freed, frees, stored, stores}
 use Rattle.bt_history.specs.Pieces.{kept, held}
 use Rattle.bt_history.specs.Legal.{IsAllowed}
 use Rattle.bt_history.proofs.Arrivals.{ArrivalFacts, arrival_facts}
@@ -35,7 +35,7 @@ kept_either false o n p q h = some_either o n p q h
 pub place_kept : (h : History) (b : Block) → is_some (stored_place h b) ≡ held h b
 unfolding stored_place kept
 place_kept [] b = refl
-place_kept (e ∷ h) b = kept_either (failed e b.piece) (stored e b) (length h) (stored_place h b) (kept h b) (place_kept h b)
+place_kept (e ∷ h) b = kept_either (freed e b) (stored e b) (length h) (stored_place h b) (kept h b) (place_kept h b)
 
 -- the entry at place i, where the oldest is at 0
 unfoldable pub entry_at : History → ℕ → Option Event
@@ -46,7 +46,7 @@ entry_at (e ∷ h) i = if i == length h then Some e else entry_at h i
 pub place_below : (h : History) (b : Block) (i : ℕ) → stored_place h b ≡ Some i → i < length h
 unfolding stored_place
 place_below [] b i is = absurd (cc is)
-place_below (e ∷ h) b i is = by_cases (failed e b.piece) (is_some (stored e b)) (place_below h b i) is where
+place_below (e ∷ h) b i is = by_cases (freed e b) (is_some (stored e b)) (place_below h b i) is where
   by_cases : (x y : Bool) → (stored_place h b ≡ Some i → i < length h) →
       (if x then None else if y then Some (length h) else stored_place h b) ≡ Some i → i < suc (length h)
   by_cases true y below is = absurd (cc is)
@@ -64,8 +64,8 @@ pub place_bytes : (h : History) (b : Block) (i : ℕ) → stored_place h b ≡ S
 unfolding stored_place kept entry_at
 place_bytes [] b i is = absurd (cc is)
 place_bytes (e ∷ h) b i is =
-    by_cases (failed e b.piece) refl (stored e b) refl (place_bytes h b i) (place_below h b i) is where
-      by_cases : (x : Bool) → failed e b.piece ≡ x → (o : Option (List ℕ)) → stored e b ≡ o → (stored_place h b ≡ Some i → StoredBy h b i) →
+    by_cases (freed e b) refl (stored e b) refl (place_bytes h b i) (place_below h b i) is where
+      by_cases : (x : Bool) → freed e b ≡ x → (o : Option (List ℕ)) → stored e b ≡ o → (stored_place h b ≡ Some i → StoredBy h b i) →
           (stored_place h b ≡ Some i → i < length h)
           → (if x then None else if is_some o then Some (length h) else stored_place h b) ≡ Some i → StoredBy (e ∷ h) b i
       by_cases true fails o was before below is = absurd (cc is)
@@ -151,8 +151,8 @@ module _ (s : Setting) (h : History) (x : PlacesState) (are : ArePlaces s h x) w
   still e none = record {
     wide = are.wide;
     long = are.long;
-    are = λ p k i lp lk is. are.are p k i lp lk (older (failed e p)
-        (ap (λ (o : Option (List ℕ)). if failed e p then None else if is_some o then Some (length h) else stored_place h (block s.torrent p k))
+    are = λ p k i lp lk is. are.are p k i lp lk (older (freed e (block s.torrent p k))
+        (ap (λ (o : Option (List ℕ)). if freed e (block s.torrent p k) then None else if is_some o then Some (length h) else stored_place h (block s.torrent p k))
         (sym (none (block s.torrent p k))) ∙ is));
   }
     where
@@ -167,7 +167,7 @@ module _ (s : Setting) (h : History) (x : PlacesState) (are : ArePlaces s h x) w
   unfolding stored_place
   place_stored w p begin bytes reply b is =
       let call = Arrived p begin bytes in
-      ap (λ (y : Bool). if y && settles call b.piece then None else if is_some (if stores reply then bytes_for b call else None) then
+      ap (λ (y : Bool). if y && frees call b then None else if is_some (if stores reply then bytes_for b call else None) then
       Some (length h) else
       stored_place h b) (store_unfailed reply is).0
       ∙ (ap (λ (y : Bool). if is_some (if y then bytes_for b call else None) then Some (length h) else stored_place h b) is

@@ -5,13 +5,14 @@ use Rattle.std.specs.Prelude.{is_some, if◌then◌else◌, min, nat_lt, unwrap_
 use Rattle.std.proofs.lemmas.Bool.{and_parts, and_right, or_parts, not-true, cases_eq, eq-eqb, ne_eqb, lt-ltb}
 use Rattle.std.proofs.lemmas.List.{length-drop, length-take, take_all}
 use Rattle.std.proofs.Math.Seq.{take-add}
+use Rattle.bt_meta.specs.declared.block.Block.{Block}
 use Rattle.bt_meta.specs.Layout.{Layout, block, block_count, block_size, piece_count, piece_len}
 use Rattle.bt_history.specs.declared.call.Reply.{Reply}
 use Rattle.bt_history.specs.declared.call.Reply.TheVariants.{Stored, Completed, Dropped}
 use Rattle.bt_history.specs.declared.event.Action.TheVariants.{Arrived}
 use Rattle.bt_history.specs.declared.event.Event.{Event}
 use Rattle.bt_history.specs.Setting.{Setting, each_block_of, some_block_of}
-use Rattle.bt_history.specs.History.{History, bytes_for, counts, failed, is_failed, is_had, stored, stores}
+use Rattle.bt_history.specs.History.{History, bytes_for, counts, freed, is_failed, is_had, stored, stores}
 use Rattle.bt_history.specs.Peers.{joined, joined_after}
 use Rattle.bt_history.specs.Pieces.{asked_of_some, content, full, had, held, held_or_asked, joined_below, kept, unbegun}
 use Rattle.bt_history.specs.Next.{Exactly}
@@ -49,8 +50,8 @@ module _ (s : Setting) (h : History) (w p k : ℕ) (bytes : List ℕ) (reply : R
   abbrev e : Event
   e = arriving w p (block_size * k) bytes reply
 
-  lasts : (q : ℕ) → failed e q ≡ false
-  lasts q = and_right (is_failed reply) false refl
+  lasts : (b : Block) → freed e b ≡ false
+  lasts b = and_right (is_failed reply) false refl
 
   stored_here : stored e (block s.torrent p k) ≡ Some bytes
   stored_here =
@@ -67,14 +68,14 @@ module _ (s : Setting) (h : History) (w p k : ℕ) (bytes : List ℕ) (reply : R
   unfolding kept
   kept_here =
       ap (λ (x : Bool). if x then None else if is_some (stored e (block s.torrent p k)) then stored e (block s.torrent p k)
-      else kept h (block s.torrent p k)) (lasts p)
+      else kept h (block s.torrent p k)) (lasts (block s.torrent p k))
       ∙ ap (λ (o : Option (List ℕ)). if is_some o then o else kept h (block s.torrent p k)) stored_here
 
   kept_else : (j : ℕ) → j ≢ k → kept (e ∷ h) (block s.torrent p j) ≡ kept h (block s.torrent p j)
   unfolding kept
   kept_else j apart =
       ap (λ (x : Bool). if x then None else if is_some (stored e (block s.torrent p j)) then stored e (block s.torrent p j)
-      else kept h (block s.torrent p j)) (lasts p)
+      else kept h (block s.torrent p j)) (lasts (block s.torrent p j))
       ∙ ap (λ (o : Option (List ℕ)). if is_some o then o else kept h (block s.torrent p j)) (stored_else j apart)
 
   still_joined : joined h w ≡ true → joined (e ∷ h) w ≡ true
@@ -86,7 +87,8 @@ module _ (s : Setting) (h : History) (w p k : ℕ) (bytes : List ℕ) (reply : R
 
   still_lacking : had h p ≡ false → had (e ∷ h) p ≡ false
   unfolding had
-  still_lacking is = ap (λ (x : Bool). x || had h p) (and_right (is_had reply) false refl) ∙ is
+  still_lacking is =
+      (λ i. and_right (is_had reply) false refl i || (not (and_right (is_failed reply) false refl i) && had h p)) ∙ is
 
 -- ---- all blocks, one after the other
 

@@ -6,13 +6,13 @@ use Rattle.bt_meta.specs.Layout.{Layout, block, block_count, block_size, piece_c
 use Rattle.bt_history.specs.declared.call.Reply.{Reply}
 use Rattle.bt_history.specs.declared.event.Action.{Action}
 use Rattle.bt_history.specs.declared.event.Action.TheVariants.{Arrived}
-use Rattle.bt_history.specs.History.{History, failed, stored, stores}
+use Rattle.bt_history.specs.History.{History, freed, stored, stores}
 use Rattle.bt_history.specs.Setting.{Setting}
 
 -- the place of the entry that stored block b, if it is held: the oldest entry is at 0
 unfoldable pub stored_place : History → Block → Option ℕ
 stored_place [] b = None
-stored_place (e ∷ h) b = if failed e b.piece then None else if is_some (stored e b) then Some (length h) else stored_place h b
+stored_place (e ∷ h) b = if freed e b then None else if is_some (stored e b) then Some (length h) else stored_place h b
 
 -- a number for each block, so many for each piece
 pub record PlacesState : Type 0 where

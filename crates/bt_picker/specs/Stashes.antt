@@ -3,7 +3,7 @@ use Rattle.std.specs.Prelude.{ℕ, ◌≡◌, ◌<◌, ◌/◌, ◌||◌, false,
 use Rattle.bt_meta.specs.Layout.{block, block_count, block_size, piece_count}
 use Rattle.bt_history.specs.declared.call.Reply.{Reply}
 use Rattle.bt_history.specs.declared.event.Action.{Action}
-use Rattle.bt_history.specs.declared.event.Action.TheVariants.{Arrived, Settle}
+use Rattle.bt_history.specs.declared.event.Action.TheVariants.{Arrived, Settle, Lose, Discard}
 use Rattle.bt_history.specs.declared.event.Event.{Event}
 use Rattle.bt_history.specs.History.{History, is_failed, is_had, stores}
 use Rattle.bt_history.specs.Pieces.{content_of_block, had}
@@ -39,6 +39,8 @@ abbrev pub restashed_by : Setting → Rows → Reply → Action → Rows
 restashed_by s rows reply (Arrived p begin bytes) =
     if stores reply then edit rows p (λ row. slice_set (with_room (block_count s.torrent p) row) (begin / block_size) bytes) else rows
 restashed_by s rows reply (Settle p bytes) = if is_had reply || is_failed reply then edit rows p (λ row. []) else rows
+restashed_by s rows reply (Lose p) = if is_failed reply then edit rows p (λ row. []) else rows
+restashed_by s rows reply (Discard p begin) = if is_failed reply then edit rows p (λ row. slice_set row (begin / block_size) []) else rows
 restashed_by s rows reply action = rows
 
 -- the rows after one more entry

@@ -85,6 +85,8 @@ fn put(tables: &mut Tables, past: &Past, worker: u32, told: &Told<'_>, reply: Re
         Told::Lack(piece) => tables.put_lack(worker, *piece),
         Told::Late { piece, begin } => tables.put_late(worker, *piece, *begin),
         Told::Alone(alone) => tables.put_alone(worker, *alone),
+        Told::Lose(piece) => tables.put_loss(*piece),
+        Told::Discard { piece, begin } => tables.put_discard(*piece, *begin),
     }
 }
 

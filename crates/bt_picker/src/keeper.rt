@@ -108,6 +108,8 @@ impl Keeper {
                 let bytes = Bytes::copy_from_slice(alloc, bytes)?;
                 self.keep(alloc, worker, piece, begin, bytes)
             }
+            Told::Lose(piece) => Ok(self.lose(worker, piece)),
+            Told::Discard { piece, begin } => Ok(self.discard(worker, piece, begin)),
             _ => Ok(self.picker.tell(worker, told)),
         }
     }
@@ -137,6 +139,34 @@ impl Keeper {
             return Ok(self.picker.tell(worker, told));
         }
         self.keep(alloc, worker, piece, begin, bytes)
+    }
+
+    /// Answers that the piece is lost: none of its bytes is kept.
+    fn lose(&mut self, worker: u32, piece: u32) -> Reply
+        ensures { Tells self.old self.new (telling worker (Told.Lose piece) result) }
+    {
+        let reply = self.picker.tell(worker, Told::Lose(piece));
+        match reply {
+            Reply::Failed => {
+                drop(self.stash.take(piece));
+                reply
+            }
+            _ => reply,
+        }
+    }
+
+    /// Answers that a block is discarded: its bytes are kept no more.
+    fn discard(&mut self, worker: u32, piece: u32, begin: u32) -> Reply
+        ensures { Tells self.old self.new (telling worker (Told.Discard piece begin) result) }
+    {
+        let reply = self.picker.tell(worker, Told::Discard { piece, begin });
+        match reply {
+            Reply::Failed => {
+                self.stash.clear(piece, begin / BLOCK_SIZE);
+                reply
+            }
+            _ => reply,
+        }
     }
 
     /// Answers that a block came, with room for it taken first.

@@ -93,6 +93,14 @@ impl Stash {
         std::mem::replace(&mut self.rows[piece as usize], none)
     }
 
+    /// Keeps the block's bytes no more, where it has them.
+    pub fn clear(&mut self, piece: u32, index: u32)
+        requires { piece < length self.old }
+        ensures { self.new ≡ edit self.old piece (λ row. slice_set row index []) }
+    {
+        clear_in(&mut self.rows[piece as usize], index);
+    }
+
     /// No blocks. Takes no memory.
     pub fn none(&self) -> Vec<Bytes>
         ensures { result.items ≡ [] }
@@ -110,4 +118,13 @@ fn put_in(row: &mut Vec<Bytes>, room: Vec<Bytes>, index: u32, bytes: Bytes)
         *row = room;
     }
     row[index as usize] = bytes;
+}
+
+/// Keeps the block's bytes in this row no more, where the row has so many.
+fn clear_in(row: &mut Vec<Bytes>, index: u32)
+    ensures { row.new.items ≡ slice_set row.old.items index [] }
+{
+    if (index as usize) < row.len() {
+        row[index as usize] = Bytes::new();
+    }
 }

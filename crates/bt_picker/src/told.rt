@@ -65,6 +65,15 @@ pub enum Told<'a> {
     },
     /// From now on the peer works alone, or like the others again.
     Alone(bool),
+    /// The piece is gone from where the caller keeps it: it isn't complete any more, and all of its blocks are lacking, as after a failed check.
+    /// Any worker may tell it. Only a picker or a keeper is told this: of a desk's pieces the journal has the bytes.
+    Lose(u32),
+    /// The block that begins so many bytes into the piece, which isn't complete, is known to be bad: it is held no more. Any worker may tell
+    /// it, of a picker or a keeper.
+    Discard {
+        piece: u32,
+        begin: u32,
+    },
 }
 
 impl<'a> Told<'a> {
@@ -83,7 +92,9 @@ impl<'a> Told<'a> {
             | Told::Levels(_)
             | Told::Lack(_)
             | Told::Late { .. }
-            | Told::Alone(_) => true,
+            | Told::Alone(_)
+            | Told::Lose(_)
+            | Told::Discard { .. } => true,
             _ => false,
         }
     }

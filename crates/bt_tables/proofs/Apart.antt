@@ -8,7 +8,7 @@ use Rattle.std.proofs.lemmas.List.{get_or-replicate, length-replicate}
 use Rattle.bt_history.specs.Counting.{table}
 use Rattle.bt_tables.specs.Orders.{at}
 use Rattle.bt_tables.specs.declared.piece.Change.{Change}
-use Rattle.bt_tables.specs.declared.piece.Change.TheVariants.{Raise, Lower, Store, Pass, Fail, Level}
+use Rattle.bt_tables.specs.declared.piece.Change.TheVariants.{Raise, Lower, Store, Pass, Fail, Level, Lose, Discard}
 use Rattle.bt_tables.specs.Tables.{HasRoomOf, PieceState, changed_row, edit, fresh_piece, less_available, more_available, one_if, piece_row}
 use Rattle.bt_tables.specs.Standings.{AreShelved, IsFiled, ShelfState, apart, group_of_row, is_resting, lowered_group, raised_group, refiled}
 use Rattle.bt_tables.specs.Standings.{shown_row, slot_of, place_in, place_of, standing_of, touched_count, whole_rows}
@@ -80,6 +80,8 @@ changed_apart (Store index sender) n row = refl
 changed_apart Pass n row = refl
 changed_apart Fail n row = refl
 changed_apart (Level m) n row = refl
+changed_apart Lose n row = refl
+changed_apart (Discard index) n row = refl
 
 -- ---- a count that changes: the group of the piece goes with it, and no sum
 
@@ -254,6 +256,8 @@ same_count (Store index sender) row = refl
 same_count Pass row = refl
 same_count Fail row = refl
 same_count (Level n) row = refl
+same_count Lose row = refl
+same_count (Discard index) row = refl
 
 -- ---- one piece of all
 

@@ -9,7 +9,7 @@ use Rattle.bt_tables.specs.Orders.{at}
 use Rattle.bt_tables.specs.declared.piece.Standing.{Standing}
 use Rattle.bt_tables.specs.declared.piece.TheConstants.Standing.{NONE}
 use Rattle.bt_tables.specs.declared.piece.Change.{Change}
-use Rattle.bt_tables.specs.declared.piece.Change.TheVariants.{Raise, Lower, Store, Pass, Fail, Level}
+use Rattle.bt_tables.specs.declared.piece.Change.TheVariants.{Raise, Lower, Store, Pass, Fail, Level, Lose, Discard}
 use Rattle.bt_tables.specs.Tables.{PieceState, changed_row, one_if, one_less, one_more, unheld}
 use Rattle.bt_tables.specs.Standings.{held_count, touched_count, wanted_length, group_of_row, standing_of, ShelfState, shelf_of, IsFiled, AreShelved}
 use Rattle.bt_tables.specs.Standings.{is_resting, refiled}
@@ -22,6 +22,8 @@ same_length (Lower index) row = length_edit row.blocks index one_less
 same_length (Store index sender) row = length-set row.blocks index (record { sender = Some sender; askers = 0 })
 same_length Pass row = refl
 same_length Fail row = length-map row.blocks unheld
+same_length Lose row = length-map row.blocks unheld
+same_length (Discard index) row = length_edit row.blocks index unheld
 same_length (Level n) row = refl
 
 -- an element's part of a sum

@@ -16,7 +16,7 @@ use Rattle.bt_tables.specs.declared.peer.Dealing.{Dealing}
 use Rattle.bt_tables.specs.declared.peer.Dealing.TheVariants.{Heard, Choke, Unchoke, Depth, Reach, Cancelled}
 use Rattle.bt_tables.specs.declared.piece.Change.{Change}
 use Rattle.bt_history.specs.declared.rules.TheConstants.{MOST_LEVEL, USUAL_LEVEL}
-use Rattle.bt_tables.specs.declared.piece.Change.TheVariants.{Raise, Lower, Store, Pass, Fail, Level}
+use Rattle.bt_tables.specs.declared.piece.Change.TheVariants.{Raise, Lower, Store, Pass, Fail, Level, Lose, Discard}
 
 -- 1 for a test that passes
 abbrev pub one_if : Bool → ℕ
@@ -232,6 +232,14 @@ had_row row = record row { had = true }
 abbrev pub failed_row : PieceState → PieceState
 failed_row row = record row { blocks = map unheld row.blocks }
 
+-- the piece is lost: it isn't had, and its blocks are lacking
+abbrev pub lost_row : PieceState → PieceState
+lost_row row = record (failed_row row) { had = false }
+
+-- the block was discarded: it is held no more
+abbrev pub discarded_row : ℕ → PieceState → PieceState
+discarded_row index row = record row { blocks = edit row.blocks index unheld }
+
 -- the piece has this level
 abbrev pub level_row : ℕ → PieceState → PieceState
 level_row n row = record row { level = n }
@@ -244,6 +252,8 @@ changed_row (Store index sender) row = stored_row sender index row
 changed_row Pass row = had_row row
 changed_row Fail row = failed_row row
 changed_row (Level n) row = level_row n row
+changed_row Lose row = lost_row row
+changed_row (Discard index) row = discarded_row index row
 
 -- the row has room for the change: it has the block that is asked or stored, one that is asked isn't held, and its counts fit their 32 bits
 abbrev pub HasRoomOf : Change → PieceState → Type 0
@@ -411,6 +421,14 @@ relevelled t level = record t { pieces = levelled_by level t.pieces }
 -- and once one piece has
 abbrev pub levelled : TablesState → ℕ → ℕ → TablesState
 levelled t piece n = record t { pieces = edit t.pieces piece (level_row n) }
+
+-- once one piece is lost
+abbrev pub lost : TablesState → ℕ → TablesState
+lost t piece = record t { pieces = edit t.pieces piece lost_row }
+
+-- once the block that begins there is discarded
+abbrev pub discarded : TablesState → ℕ → ℕ → TablesState
+discarded t piece begin = record t { pieces = edit t.pieces piece (discarded_row (begin / block_size)) }
 
 -- the tables once pieces of this level and of higher ones come in order
 abbrev pub ordered : TablesState → ℕ → TablesState

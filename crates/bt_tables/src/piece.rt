@@ -30,6 +30,10 @@ pub enum Change {
     Fail,
     /// The piece has this level from now on.
     Level(u8),
+    /// The piece is lost: it isn't had, and no block is held.
+    Lose,
+    /// The block is held no more.
+    Discard(u32),
 }
 
 /// What a piece amounts to among the others: its group, how many of its blocks are unasked and how many aren't held, if it is wanted,

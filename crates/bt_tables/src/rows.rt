@@ -6,7 +6,7 @@ ghost use Rattle.bt_history.specs.Counting.{table};
 ghost use Rattle.bt_tables.specs.Floors.{NoneFresh};
 ghost use Rattle.bt_tables.specs.Standings.{is_held, cell_kept};
 ghost use Rattle.bt_tables.specs.Tables.{HasRoomOf, changed_row, edit, empty_cell, failed_row, fresh_piece, had_row, one_less, one_more, piece_row};
-ghost use Rattle.bt_tables.specs.Tables.{level_row, stored_row};
+ghost use Rattle.bt_tables.specs.Tables.{discarded_row, level_row, lost_row, stored_row};
 
 use crate::cell::{Cell, HELD};
 use crate::counts::Counts;
@@ -105,18 +105,20 @@ impl Rows {
             Change::Raise(index) => self.raise(piece, index),
             Change::Lower(index) => self.lower(piece, index),
             Change::Store { index, sender } => self.put(piece, index, Cell::kept_by(sender)),
-            Change::Pass => self.pass(piece),
+            Change::Pass => self.put_had(piece, true),
             Change::Fail => self.fail(piece),
             Change::Level(level) => self.put_level(piece, level),
+            Change::Lose => self.lose(piece),
+            Change::Discard(index) => self.discard(piece, index),
         }
     }
 
-    /// A check found the right hash.
-    fn pass(&mut self, piece: u32)
+    /// The piece is had, or isn't.
+    fn put_had(&mut self, piece: u32, had: bool)
         requires { piece < length self.old }
-        ensures { self.new ≡ edit self.old piece had_row }
+        ensures { self.new ≡ edit self.old piece (λ row. record row { had = had }) }
     {
-        self.counts[piece as usize].had = true;
+        self.counts[piece as usize].had = had;
     }
 
     /// The piece has this level from now on.
@@ -133,6 +135,26 @@ impl Rows {
         ensures { self.new ≡ edit self.old piece failed_row }
     {
         for index in 0..self.row(piece).len() {
+            let cell = self.row(piece).cell(index);
+            self.put(piece, index, cell.released());
+        }
+    }
+
+    /// The piece isn't had, and no block is held.
+    fn lose(&mut self, piece: u32)
+        requires { piece < length self.old }
+        ensures { self.new ≡ edit self.old piece lost_row }
+    {
+        self.fail(piece);
+        self.put_had(piece, false);
+    }
+
+    /// The block is held no more, where the piece has so many.
+    fn discard(&mut self, piece: u32, index: u32)
+        requires { piece < length self.old }
+        ensures { self.new ≡ edit self.old piece (discarded_row index) }
+    {
+        if index < self.row(piece).len() {
             let cell = self.row(piece).cell(index);
             self.put(piece, index, cell.released());
         }

@@ -15,9 +15,9 @@ ghost use Rattle.bt_meta.specs.declared.block.Block.{Block};
 ghost use Rattle.bt_history.specs.Counting.{any_below, table};
 ghost use Rattle.bt_tables.specs.Floors.{AsksRarest, FewOpen, IsFloor, NoneFresh, RequestTells, TellsFloor, is_fresh};
 ghost use Rattle.bt_tables.specs.Tables.{AreAskers, AreCounted, HasBlock, HasRoomFor, HasShortLines, bits_row, leave_row, TablesState, after_arrival};
-ghost use Rattle.bt_tables.specs.Tables.{after_check, after_next, announced, given_up, edit, failed_row, fresh_peer, fresh_piece, join_row};
+ghost use Rattle.bt_tables.specs.Tables.{after_check, after_next, announced, given_up, edit, fresh_peer, fresh_piece, join_row};
 ghost use Rattle.bt_tables.specs.Tables.{alone_row, choke_row, delayed, is_late_at, unexpected, lacked, noted_row, joint, levelled, ordered, peer_row, piece_row, released, relevelled, reshown};
-ghost use Rattle.bt_tables.specs.Tables.{wanted_level, with_block, with_peer};
+ghost use Rattle.bt_tables.specs.Tables.{HasRoomOf, changed_row, discarded, lost, wanted_level, with_block, with_peer};
 ghost use Rattle.bt_history.specs.declared.rules.TheConstants.{MOST_LEVEL};
 ghost use Rattle.std.specs.Prelude.{nat_le};
 
@@ -564,17 +564,34 @@ impl Tables {
     {
         match reply {
             Reply::Had => self.pieces.apply(piece, Change::Pass),
-            _ => self.fail(piece),
+            _ => self.change(piece, Change::Fail),
         }
     }
 
-    /// A check of the piece found another hash.
-    fn fail(&mut self, piece: u32)
-        requires { piece < length self.old.pieces }
-        ensures { self.new ≡ record self.old { pieces = edit self.old.pieces piece failed_row } }
+    /// Changes the row of the piece, which may be unbegun then.
+    fn change(&mut self, piece: u32, change: Change)
+        requires piece { piece < length self.old.pieces }
+        requires fits { HasRoomOf change (piece_row self.old.pieces piece) }
+        ensures { self.new ≡ record self.old { pieces = edit self.old.pieces piece (changed_row change) } }
     {
-        self.pieces.apply(piece, Change::Fail);
+        self.pieces.apply(piece, change);
         self.floors.admit(&self.peers, &self.pieces, piece);
+    }
+
+    /// Lose: the piece isn't had, and none of its blocks is held.
+    pub fn put_loss(&mut self, piece: u32)
+        requires { piece < length self.old.pieces }
+        ensures { self.new ≡ lost self.old piece }
+    {
+        self.change(piece, Change::Lose);
+    }
+
+    /// Discard: the block that begins there is held no more.
+    pub fn put_discard(&mut self, piece: u32, begin: u32)
+        requires { piece < length self.old.pieces }
+        ensures { self.new ≡ discarded self.old piece begin }
+    {
+        self.change(piece, Change::Discard(begin / BLOCK_SIZE));
     }
 
     /// Want.
@@ -605,8 +622,7 @@ impl Tables {
         requires { piece < length self.old.pieces }
         ensures { self.new ≡ levelled self.old piece level }
     {
-        self.pieces.apply(piece, Change::Level(level));
-        self.floors.admit(&self.peers, &self.pieces, piece);
+        self.change(piece, Change::Level(level));
     }
 
     /// Haves: the peer shows these pieces too, a have for each.

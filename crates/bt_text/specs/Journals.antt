@@ -5,7 +5,7 @@ use Rattle.hex.specs.Hex.{encode_lower}
 use Rattle.bt_meta.specs.WireBits.{IsSpelled}
 use Rattle.bt_history.specs.declared.event.Action.{Action}
 use Rattle.bt_history.specs.declared.event.Action.TheVariants.{Join, Bits, Have, Choke, Unchoke, Next, Arrived, Settle, Leave, Want, Haves, Depth}
-use Rattle.bt_history.specs.declared.event.Action.TheVariants.{Release, Level, Levels, InOrder, Reach, InOrderFrom, Lack, Late, Alone}
+use Rattle.bt_history.specs.declared.event.Action.TheVariants.{Release, Level, Levels, InOrder, Reach, InOrderFrom, Lack, Late, Alone, Lose, Discard}
 use Rattle.bt_history.specs.declared.event.Event.{Event}
 use Rattle.bt_text.specs.Texts.{reply_text}
 
@@ -29,7 +29,7 @@ level_digit level = 48 + min level 9
 abbrev pub level_digits : List ℕ → List ℕ
 level_digits levels = map level_digit levels
 
--- the text of a call
+-- the text of a call of a journal, which has none that frees blocks with no check
 abbrev pub IsCallText : Action → List ℕ → Type 0
 IsCallText Join text = text ≡ codes "join"
 IsCallText (Bits flags) text = (wire : List ℕ) × (IsSpelled flags wire × (text ≡ codes "bits " ++ encode_lower wire))
@@ -54,6 +54,8 @@ IsCallText (Lack p) text = text ≡ codes "lack " ++ decimal p
 IsCallText (Late p begin) text = text ≡ request_text (codes "late ") p begin
 IsCallText (Alone true) text = text ≡ codes "alone yes"
 IsCallText (Alone false) text = text ≡ codes "alone no"
+IsCallText (Lose p) text = ⊥
+IsCallText (Discard p begin) text = ⊥
 
 -- the line of an entry: the worker, the call and the reply
 pub record IsJournalLine (e : Event) (text : List ℕ) : Type 0 where

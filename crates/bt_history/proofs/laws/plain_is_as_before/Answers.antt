@@ -1,5 +1,6 @@
 use Rattle.bt_history.specs.Setting.{setting_of}
 use Rattle.bt_history.specs.Entries.{history_of}
+use Rattle.bt_history.proofs.Losing.{journals_lose_nothing}
 use Rattle.bt_history.proofs.Plain.{legal_plain}
 use Rattle.bt_history.proofs.laws.plain_is_as_before.Goals as goal
 
@@ -16,4 +17,5 @@ returns c =
       reaches = c.requires.reaches;
       delays = c.requires.delays;
       alone = c.requires.alone;
+      losses = journals_lose_nothing c.args.journal.now;
     })

@@ -1,12 +1,12 @@
 use Rattle.std.proofs.Common.{◌∙◌, length, sym, ap, arith}
-use Rattle.bt_history.specs.declared.event.Action.TheVariants.{Bits, Have, Haves, Arrived, Lack, Leave, Level}
+use Rattle.bt_history.specs.declared.event.Action.TheVariants.{Bits, Discard, Have, Haves, Arrived, Lack, Leave, Level, Lose}
 use Rattle.bt_history.proofs.Allowed.{worker_below}
 use Rattle.bt_tables.specs.Tables.{PeerState, TablesState, have_row}
 use Rattle.bt_tables.proofs.Tabled.{length_edit}
 use Rattle.bt_picker.proofs.Entering.{peer_row_is}
 use Rattle.bt_picker.proofs.PeerSteps.{shows_length}
 use Rattle.bt_picker.proofs.Entered.{level_piece, cause_none, entered_counted, bits_facts, have_facts, haves_facts, lack_facts, lines_short, pieces_few}
-use Rattle.bt_picker.proofs.Entered.{pieces_short, shown_counted, arrival_askers, arrival_block, has_room}
+use Rattle.bt_picker.proofs.Entered.{discard_facts, loss_piece, pieces_short, shown_counted, arrival_askers, arrival_block, has_room}
 use Rattle.bt_picker.proofs.Learning.{told_floor, unnoted_floor}
 use Rattle.bt_picker.proofs.entries.put.Goals as goal
 
@@ -155,3 +155,17 @@ put_lack-requires-clause-shown c =
       ap (λ (r : PeerState). length r.shows) row,
       shows_length c.args.tables.now.setting c.args.past.now.entries c.args.worker,
     )
+
+pub put_loss-requires : goal.put_loss-requires
+put_loss-requires c =
+    let cause = cause_none c.args.tables.now.setting c.args.past.now.entries c.args.worker (Lose c.in-Lose.piece) c.args.reply (rw c.in-Lose.is at c.requires.allowed)
+    c.requires.counts in
+    let lp = loss_piece c.args.tables.now.setting c.args.past.now.entries c.args.worker c.in-Lose.piece cause in
+    omega (arith, lp, c.requires.are.pieces_len)
+
+pub put_discard-requires : goal.put_discard-requires
+put_discard-requires c =
+    let cause = cause_none c.args.tables.now.setting c.args.past.now.entries c.args.worker (Discard c.in-Discard.piece c.in-Discard.begin) c.args.reply
+    (rw c.in-Discard.is at c.requires.allowed) c.requires.counts in
+    let facts = discard_facts c.args.tables.now.setting c.args.past.now.entries c.args.worker c.in-Discard.piece c.in-Discard.begin cause in
+    omega (arith, facts.0, c.requires.are.pieces_len)

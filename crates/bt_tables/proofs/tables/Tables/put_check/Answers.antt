@@ -26,4 +26,4 @@ returns-in_default c =
     let p = c.args.piece in
     let not_had : is_had c.args.reply ≡ false = false_from_ne_true (is_had c.args.reply) (λ is. c.in_default.not-Had (had_reply c.args.reply is)) in
     let t = c.args.self.now in
-    c.fail.ensures ∙ sym (ap (λ (x : Bool). record t { pieces = edit t.pieces p (if x then had_row else failed_row) }) not_had)
+    c.change.ensures ∙ sym (ap (λ (x : Bool). record t { pieces = edit t.pieces p (if x then had_row else failed_row) }) not_had)
