@@ -211,10 +211,10 @@ static int is_had(void) {
     return 1000;
 }
 
-/* Whole pieces: the cost of an arrival, and of settling. */
-static double arrived_ns, settled_ns, restored_ns;
+/* Whole pieces: the cost of an arrival, of settling, of a loss, and of a block that is discarded and comes again. */
+static double arrived_ns, settled_ns, restored_ns, lost_ns, discarded_ns;
 static void pieces_come(void) {
-    double arrived = 0, settled = 0, restored = 0, begin;
+    double arrived = 0, settled = 0, restored = 0, lost = 0, discarded = 0, begin;
     for (uint32_t piece = 0; piece < 500; piece++) {
         begin = now();
         for (uint32_t index = 0; index < BLOCKS; index++) well(piecepick_arrived(picker, 4, piece, index * BLOCK, block, BLOCK, &answer));
@@ -233,9 +233,23 @@ static void pieces_come(void) {
         if (answer.kind != PIECEPICK_K_HAD) exit(1);
     }
     free(zeros);
+    for (uint32_t piece = 500; piece < 900; piece++) {
+        begin = now();
+        well(piecepick_lose(picker, piece, &answer));
+        lost += now() - begin;
+        if (answer.kind != PIECEPICK_K_FAILED) exit(1);
+        well(piecepick_arrived(picker, 4, piece, 0, block, BLOCK, &answer));
+        begin = now();
+        well(piecepick_discard(picker, piece, 0, &answer));
+        well(piecepick_arrived(picker, 4, piece, 0, block, BLOCK, &answer));
+        discarded += now() - begin;
+        if (answer.kind != PIECEPICK_K_STORED) exit(1);
+    }
     arrived_ns = arrived / 500 / BLOCKS;
     settled_ns = settled / 500;
     restored_ns = restored / 400;
+    lost_ns = lost / 400;
+    discarded_ns = discarded / 400;
 }
 
 static const struct {
@@ -277,6 +291,7 @@ static void measure(uint32_t count) {
     }
     pieces_come();
     printf("%12.0f ns  arrived\n%12.0f ns  settle\n%12.0f ns  restore\n", arrived_ns, settled_ns, restored_ns);
+    printf("%12.0f ns  lose\n%12.0f ns  discard, and the block again\n", lost_ns, discarded_ns);
     piecepick_close(&picker);
     free(flags);
     free(levels);

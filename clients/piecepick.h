@@ -90,7 +90,7 @@ typedef enum piecepick_kind {
     PIECEPICK_K_COMPLETED = 11,  /* stored, and its piece is full now: write them too, and check the piece */
     PIECEPICK_K_DROPPED = 12,    /* the block was held already: it came twice, and these bytes are written nowhere */
     PIECEPICK_K_HAD = 13,        /* the piece has its hash */
-    PIECEPICK_K_FAILED = 14,     /* the piece has another hash: its blocks are held no more */
+    PIECEPICK_K_FAILED = 14,     /* the piece has another hash, or you said that bytes are gone or bad: its blocks, or that one, are held no more */
     PIECEPICK_K_REFUSED = 15     /* by a rule, which `reason` names: mostly the peer's fault, not the caller's */
 } piecepick_kind;
 
@@ -221,6 +221,15 @@ PIECEPICK_MUST piecepick_status piecepick_set_in_order(piecepick_picker *picker,
    order, with 8 none. So a window before a reader comes in order, and the rest stays rarest first. It takes the place of what
    piecepick_set_in_order told, and the other way round: that one tells 0, or 8 where `rising` is 0. QUIET, or REFUSED by WRONG_LEVEL. */
 PIECEPICK_MUST piecepick_status piecepick_set_in_order_from(piecepick_picker *picker, uint32_t level, piecepick_answer *answer);
+
+/* The piece is gone from where you keep it: a file was deleted, or a check of the disk found other bytes. It isn't complete any more, and all of
+   its blocks are lacking, as after a failed check. What is in flight stays in flight. A piece of which nothing is held is no error: the epoch
+   rises. FAILED. PIECE; KEEPS where a journal is kept, which has the content itself. */
+PIECEPICK_MUST piecepick_status piecepick_lose(piecepick_picker *picker, uint32_t piece, piecepick_answer *answer);
+/* The block that begins there is known to be bad, by a hash tree, or since its sender was banned. It is held no more, and is asked for again. The
+   other blocks of its piece stay, with their senders. A block that isn't held is no error: the epoch rises. FAILED, or REFUSED by NO_SUCH_BLOCK, or
+   by NOT_WAITING where the piece is complete: lose that. PIECE; KEEPS where a journal is kept. */
+PIECEPICK_MUST piecepick_status piecepick_discard(piecepick_picker *picker, uint32_t piece, uint32_t begin, piecepick_answer *answer);
 
 /* KEEPS_NOTHING: the piece is full, and this is the SHA-1 of its blocks as they were stored. HAD or FAILED. KEEPS, PIECE, NOT_WAITING. */
 PIECEPICK_MUST piecepick_status piecepick_settle(piecepick_picker *picker, uint32_t piece, const piecepick_digest *digest, piecepick_answer *answer);

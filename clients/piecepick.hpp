@@ -181,6 +181,8 @@ public:
 
     /* What is to be downloaded. */
     Answer want(Bytes flags) { return answer(piecepick_want, flags.data(), flags.size()); }
+    Answer lose(std::uint32_t piece) { return answer(piecepick_lose, piece); }
+    Answer discard(std::uint32_t piece, std::uint32_t begin) { return answer(piecepick_discard, piece, begin); }
     Answer set_level(std::uint32_t piece, std::uint32_t level) { return answer(piecepick_set_level, piece, level); }
     Answer set_levels(Bytes levels) { return answer(piecepick_set_levels, levels.data(), levels.size()); }
     Answer set_in_order(bool rising) { return answer(piecepick_set_in_order, std::uint32_t{rising}); }

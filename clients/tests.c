@@ -653,6 +653,7 @@ BY_NUMBER(arrived_at, piecepick_arrived(picker, 0, at, 0, content, BLOCK, answer
 BY_NUMBER(release_at, piecepick_release(picker, 0, at, 0, answer))
 BY_NUMBER(late_at, piecepick_late(picker, 0, at, 0, answer))
 BY_NUMBER(level_at, piecepick_set_level(picker, at, 4, answer))
+BY_NUMBER(discard_at, piecepick_discard(picker, at, 0, answer))
 #define BY_FLAGS(name, call) \
     static piecepick_status name(piecepick_picker *picker, const uint8_t *flags, size_t len, piecepick_answer *answer) { return call; }
 BY_FLAGS(bits_by, piecepick_bits(picker, 0, flags, len, answer))
@@ -677,7 +678,7 @@ static by_number *const AT_WORKER[] = {
     alone_of, next_of, piecepick_join, outstanding_of,
 };
 enum { NEED_A_PEER = 14, AT_WORKERS = 16 };
-static by_number *const AT_PIECE[] = {have_at, lack_at, arrived_at, release_at, late_at, level_at};
+static by_number *const AT_PIECE[] = {have_at, lack_at, arrived_at, release_at, late_at, level_at, discard_at, piecepick_lose};
 static by_flags *const WITH_FLAGS[] = {bits_by, haves_by, piecepick_want};
 
 static void no_worker(piecepick_picker *picker, uint32_t keeps, uint32_t worker)
@@ -1975,6 +1976,95 @@ static uint64_t epoch(piecepick_picker *picker)
 #define STAYS(step) do { uint64_t stays_at = epoch(picker); step; EQUAL(epoch(picker) == stays_at, 1); } while (0)
 #define RISES(step) do { uint64_t rises_from = epoch(picker); step; EQUAL(epoch(picker) > rises_from, 1); } while (0)
 
+/* ---- Bytes that are gone, or bad. */
+
+/* A picker that keeps its content loses none of it. Otherwise all of a lost piece is lacking, and what is in flight stays in flight. */
+static void try_losses(uint32_t keeps)
+{
+    piecepick_picker *picker = open_for(keeps, 2);
+    piecepick_answer answer;
+    uint32_t number;
+    uint64_t before;
+    come(picker, 0);
+    EQUAL(bring_whole(picker, keeps, 0, 0), PIECEPICK_K_HAD);
+    before = picture(picker);
+    if (keeps == PIECEPICK_KEEPS_JOURNAL) {
+        NO_ANSWER(piecepick_lose(picker, 0, &answer), PIECEPICK_E_KEEPS);
+        NO_ANSWER(piecepick_discard(picker, 1, 0, &answer), PIECEPICK_E_KEEPS);
+        EQUAL(picture(picker), before);
+        EQUAL(piecepick_audit(picker), PIECEPICK_OK);
+        piecepick_close(&picker);
+        return;
+    }
+    GETS(piecepick_lose(picker, 0, &answer), PIECEPICK_K_FAILED);
+    NUMBER(piecepick_is_had(picker, 0, &number), 0);
+    NUMBER(piecepick_is_waiting(picker, 0, &number), 0);
+    NO_NUMBER(piecepick_sender(picker, 0, 0, &number), PIECEPICK_E_NOT_HELD);
+    asks_piece(picker, 0, 0, 0);
+    EQUAL(bring_whole(picker, keeps, 0, 0), PIECEPICK_K_HAD);
+    /* One block of a begun piece is held, and the other one is in flight. */
+    asks_piece(picker, 0, 1, 1);
+    EQUAL(bring(picker, 0, 1, 0, 1), PIECEPICK_K_STORED);
+    GETS(piecepick_lose(picker, 1, &answer), PIECEPICK_K_FAILED);
+    NUMBER(piecepick_outstanding(picker, 0, &number), 1);
+    BLOCKS(piecepick_next(picker, 0, 1, &answer), PIECEPICK_K_REQUEST, 1, 0);
+    EQUAL(bring_whole(picker, keeps, 0, 1), PIECEPICK_K_HAD);
+    /* Of this one nothing is held. */
+    before = still_picture(picker);
+    RISES(GETS(piecepick_lose(picker, 5, &answer), PIECEPICK_K_FAILED));
+    EQUAL(still_picture(picker), before);
+    /* The last piece of all. */
+    for (uint32_t piece = 2; piece < pieces; piece++) EQUAL(bring_whole(picker, keeps, 0, piece), PIECEPICK_K_HAD);
+    GETS(piecepick_next(picker, 0, 0, &answer), PIECEPICK_K_NOTHING_LEFT);
+    RISES(GETS(piecepick_lose(picker, pieces - 1, &answer), PIECEPICK_K_FAILED));
+    NUMBER(piecepick_has_wanted(picker, &number), 0);
+    asks_piece(picker, 0, 0, pieces - 1);
+    EQUAL(bring_whole(picker, keeps, 0, pieces - 1), PIECEPICK_K_HAD);
+    NUMBER(piecepick_is_complete(picker, &number), 1);
+    piecepick_close(&picker);
+}
+
+/* A bad block of one peer is brought by another. The other block of the piece stays, and so does who sent it. */
+static void try_discards(uint32_t keeps)
+{
+    piecepick_picker *picker = open_for(keeps, 2);
+    piecepick_job *job = NULL;
+    piecepick_answer answer;
+    uint32_t number;
+    uint64_t before;
+    come(picker, 0);
+    come(picker, 1);
+    if (keeps != PIECEPICK_KEEPS_JOURNAL) {
+        EQUAL(bring(picker, 0, 0, 0, 1), PIECEPICK_K_STORED);
+        EQUAL(bring(picker, 1, 0, BLOCK, 0), PIECEPICK_K_COMPLETED);
+        RISES(GETS(piecepick_discard(picker, 0, 0, &answer), PIECEPICK_K_FAILED));
+        NUMBER(piecepick_is_waiting(picker, 0, &number), 0);
+        NO_NUMBER(piecepick_sender(picker, 0, 0, &number), PIECEPICK_E_NOT_HELD);
+        NUMBER(piecepick_sender(picker, 0, 1, &number), 1);
+        STAYS(REFUSED(piecepick_discard(picker, 0, 1, &answer), PIECEPICK_R_NO_SUCH_BLOCK));
+        STAYS(REFUSED(piecepick_discard(picker, 0, length_of(0), &answer), PIECEPICK_R_NO_SUCH_BLOCK));
+        before = still_picture(picker);
+        GETS(piecepick_discard(picker, 0, 0, &answer), PIECEPICK_K_FAILED); /* it isn't held */
+        EQUAL(still_picture(picker), before);
+        BLOCKS(piecepick_next(picker, 1, 3, &answer), PIECEPICK_K_REQUEST, 0, 0);
+        EQUAL(bring(picker, 1, 0, 0, 0), PIECEPICK_K_COMPLETED);
+        EQUAL(settle(picker, keeps, 0, 0), PIECEPICK_K_HAD);
+        STAYS(REFUSED(piecepick_discard(picker, 0, 0, &answer), PIECEPICK_R_NOT_WAITING));
+    }
+    if (keeps == PIECEPICK_KEEPS_BEGUN) { /* a check that was under way is of bytes that are held no more */
+        for (uint32_t begin = 0; begin < length_of(1); begin += BLOCK) EQUAL(bring(picker, 0, 1, begin, 0) != PIECEPICK_K_DROPPED, 1);
+        EQUAL(piecepick_job_take(picker, 1, &job), PIECEPICK_OK);
+        EQUAL(piecepick_job_hash(job), PIECEPICK_OK);
+        GETS(piecepick_discard(picker, 1, BLOCK, &answer), PIECEPICK_K_FAILED);
+        NO_ANSWER(piecepick_job_settle(picker, job, &answer), PIECEPICK_E_NOT_WAITING);
+        EQUAL(bring(picker, 1, 1, BLOCK, 1), PIECEPICK_K_COMPLETED);
+        NO_ANSWER(piecepick_job_settle(picker, job, &answer), PIECEPICK_E_STALE);
+        piecepick_job_close(&job);
+        EQUAL(settle(picker, keeps, 1, 1), PIECEPICK_K_FAILED);
+    }
+    piecepick_close(&picker);
+}
+
 static void try_epochs(uint32_t keeps)
 {
     piecepick_options options = PIECEPICK_OPTIONS;
@@ -3186,6 +3276,8 @@ int main(int argc, char **argv)
         {"ends of a piece of its own", try_alone_ends},
         {"how long it works alone", try_alone_lasts},
         {"a liar that works alone", try_liar},
+        {"pieces that are lost", try_losses},
+        {"blocks that are discarded", try_discards},
         {"epochs", try_epochs},
         {"epochs, in calls at random", try_epochs_at_random},
         {"senders", try_senders},

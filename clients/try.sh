@@ -184,6 +184,14 @@ int main()
     well = well && apart.next(0, 0).piece == 1 && apart.next(0, 0).kind == PIECEPICK_K_IDLE;
     well = well && apart.alone(1, false).kind == PIECEPICK_K_QUIET && apart.next(0, 0).begin == 16384 && apart.outstanding_at(0, 2).piece == 0;
     well = well && throws(PIECEPICK_E_WORKER, [&] { apart.alone(50, true); });
+    /* A discarded block and a lost piece are lacking; a journal loses nothing. */
+    Picker losing(2 * 16384, 4 * 16384, {digests, 40}, Options());
+    losing.join(0);
+    const std::string zeros(16384, '\0');
+    for (std::uint32_t begin = 0; begin < 2; begin++) (void)losing.arrived(0, 0, begin * 16384, zeros);
+    well = well && losing.discard(0, 16384).kind == PIECEPICK_K_FAILED && !losing.is_waiting(0) && losing.lose(0).kind == PIECEPICK_K_FAILED;
+    well = well && losing.arrived(0, 0, 0, zeros).kind == PIECEPICK_K_STORED && losing.discard(0, 1).reason == PIECEPICK_R_NO_SUCH_BLOCK;
+    well = well && throws(PIECEPICK_E_PIECE, [&] { losing.lose(2); }) && throws(PIECEPICK_E_PIECE, [&] { losing.discard(2, 0); });
     first = open();
     return well && !first.is_complete() && throws(PIECEPICK_E_NOT_HAD, [&] { first.read(0, room); }) ? 0 : 1;
 }

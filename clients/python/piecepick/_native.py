@@ -165,6 +165,8 @@ SIGNATURES: dict[str, tuple[Any, list[Any]]] = {
     "piecepick_alone": (c_uint32, [_PICKER, c_uint32, c_uint32, _ANSWER]),
     "piecepick_next": (c_uint32, [_PICKER, c_uint32, c_uint64, _ANSWER]),
     "piecepick_want": (c_uint32, [_PICKER, _DATA, c_size_t, _ANSWER]),
+    "piecepick_lose": (c_uint32, [_PICKER, c_uint32, _ANSWER]),
+    "piecepick_discard": (c_uint32, [_PICKER, c_uint32, c_uint32, _ANSWER]),
     "piecepick_set_level": (c_uint32, [_PICKER, c_uint32, c_uint32, _ANSWER]),
     "piecepick_set_levels": (c_uint32, [_PICKER, _DATA, c_size_t, _ANSWER]),
     "piecepick_set_in_order": (c_uint32, [_PICKER, c_uint32, _ANSWER]),

@@ -426,6 +426,20 @@ class Picker:
         data, length = lend(flags)
         return self._told(LIBRARY.piecepick_want, data, length)
 
+    def lose(self, piece: int) -> Answer:
+        """The piece is gone from where you keep it: FAILED. It isn't complete any more, and all of its blocks are lacking, as after a failed check.
+
+        What is in flight stays in flight. `Status.KEEPS` where a journal is kept.
+        """
+        return self._told(LIBRARY.piecepick_lose, _u32(piece))
+
+    def discard(self, piece: int, begin: int) -> Answer:
+        """The block that begins there is known to be bad: FAILED. It is held no more, and the other blocks of its piece stay.
+
+        Of a complete piece it is refused. `Status.KEEPS` where a journal is kept.
+        """
+        return self._told(LIBRARY.piecepick_discard, _u32(piece), _u32(begin))
+
     def set_level(self, piece: int, level: int) -> Answer:
         """The piece has this level, 0 to 7: 0 isn't downloaded, and a higher one comes first. REFUSED by WRONG_LEVEL above 7."""
         return self._told(LIBRARY.piecepick_set_level, _u32(piece), _u32(level))

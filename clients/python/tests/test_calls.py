@@ -465,6 +465,29 @@ class Pieces(CallCase):
             self.assertEqual(made.want(b"\x40").kind, Kind.QUIET)
             self.assertEqual((made.level(1), made.level(3), made.has_wanted), (4, 0, False))
 
+    def test_losses(self) -> None:
+        """A lost piece is lacking, and a discarded block too; of a complete piece none is discarded, and a journal loses nothing."""
+        digest = hashlib.sha1(bytes(2 * BLOCK)).digest()
+        with Picker.of_parts(2 * BLOCK, 4 * BLOCK, 2 * digest, workers=1, keeps=Keeps.NOTHING) as made:
+            made.join(0)
+            for begin in (0, BLOCK):
+                made.arrived(0, 0, begin, bytes(BLOCK))
+            self.assertEqual(made.discard(0, BLOCK).kind, Kind.FAILED)
+            self.assertFalse(made.is_waiting(0))
+            self.assertEqual(made.discard(0, 1), refused(Reason.NO_SUCH_BLOCK))
+            self.assertIs(made.arrived(0, 0, BLOCK, bytes(BLOCK)).kind, Kind.COMPLETED)
+            self.assertIs(made.settle(0, digest).kind, Kind.HAD)
+            self.assertEqual(made.discard(0, 0), refused(Reason.NOT_WAITING))
+            before = made.epoch
+            self.assertEqual(made.lose(0).kind, Kind.FAILED)
+            self.assertEqual((made.is_had(0), made.epoch > before), (False, True))
+            self.assertIs(made.arrived(0, 0, 0, bytes(BLOCK)).kind, Kind.STORED)
+            self.assert_status(Status.PIECE, made.lose, 2)
+            self.assert_status(Status.PIECE, made.discard, 2, 0)
+        with Picker(METAINFO, keeps=Keeps.JOURNAL) as made:
+            self.assert_status(Status.KEEPS, made.lose, 0)
+            self.assert_status(Status.KEEPS, made.discard, 0, 0)
+
     def test_order(self) -> None:
         with with_peer() as made:
             self.assertFalse(made.is_in_order)

@@ -170,6 +170,26 @@ impl Picker {
         self.answer(|picker, answer| unsafe { sys::piecepick_want(picker, first, length, answer) })
     }
 
+    /// The piece is gone from where you keep it: `Failed`. It isn't complete any more, and all of its blocks are lacking, as after a failed check.
+    /// What is in flight stays in flight.
+    ///
+    /// # Errors
+    ///
+    /// [`Error::Piece`], and [`Error::Keeps`] where a journal is kept.
+    pub fn lose(&mut self, piece: u32) -> Result<Answer, Error> {
+        self.answer(|picker, answer| unsafe { sys::piecepick_lose(picker, piece, answer) })
+    }
+
+    /// The block that begins there is known to be bad: `Failed`. It is held no more, and the other blocks of its piece stay. Of a complete piece
+    /// it is refused.
+    ///
+    /// # Errors
+    ///
+    /// [`Error::Piece`], and [`Error::Keeps`] where a journal is kept.
+    pub fn discard(&mut self, piece: u32, begin: u32) -> Result<Answer, Error> {
+        self.answer(|picker, answer| unsafe { sys::piecepick_discard(picker, piece, begin, answer) })
+    }
+
     /// The piece has this level, 0 to 7: 0 isn't downloaded, and of the others a higher one comes before a lower one.
     pub fn set_level(&mut self, piece: u32, level: u32) -> Result<Answer, Error> {
         self.answer(|picker, answer| unsafe { sys::piecepick_set_level(picker, piece, level, answer) })

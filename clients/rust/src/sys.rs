@@ -137,6 +137,8 @@ extern "C" {
         flags_len: usize,
         answer: *mut piecepick_answer,
     ) -> piecepick_status;
+    pub fn piecepick_lose(picker: *mut piecepick_picker, piece: u32, answer: *mut piecepick_answer) -> piecepick_status;
+    pub fn piecepick_discard(picker: *mut piecepick_picker, piece: u32, begin: u32, answer: *mut piecepick_answer) -> piecepick_status;
     pub fn piecepick_set_level(picker: *mut piecepick_picker, piece: u32, level: u32, answer: *mut piecepick_answer) -> piecepick_status;
     pub fn piecepick_set_levels(
         picker: *mut piecepick_picker,

@@ -395,6 +395,29 @@ fn the_next_peer_works_with_the_others() {
 }
 
 #[test]
+fn what_is_gone_or_bad_is_lacking() {
+    let mut picker = Picker::open_parts(PIECE as u32, 2 * PIECE as u64, &[[0; 20]; 2], Options::new().workers(1)).unwrap();
+    picker.join(0).unwrap();
+    for begin in [0, BLOCK as u32] {
+        picker.arrived(0, 0, begin, &[0; BLOCK]).unwrap();
+    }
+    assert!(picker.is_waiting(0).unwrap());
+    let before = picker.epoch();
+    assert_eq!(picker.discard(0, BLOCK as u32), Ok(Answer::Failed));
+    assert!(picker.epoch() > before && !picker.is_waiting(0).unwrap());
+    assert_eq!(picker.sender(0, 0), Ok(0));
+    assert_eq!(picker.sender(0, 1), Err(Error::NotHeld));
+    assert_eq!(picker.discard(0, 1), Ok(Answer::Refused(Reason::NoSuchBlock)));
+    assert_eq!(picker.lose(0), Ok(Answer::Failed));
+    assert_eq!(picker.sender(0, 0), Err(Error::NotHeld));
+    assert_eq!(picker.lose(2), Err(Error::Piece));
+    assert_eq!(picker.discard(2, 0), Err(Error::Piece));
+    let mut journal = Picker::open_parts(PIECE as u32, 2 * PIECE as u64, &[[0; 20]; 2], Options::new().keeps(Keeps::Journal)).unwrap();
+    assert_eq!(journal.lose(0), Err(Error::Keeps));
+    assert_eq!(journal.discard(0, 0), Err(Error::Keeps));
+}
+
+#[test]
 fn a_dropped_piece_is_asked_of_another_peer() {
     let mut picker = with_peer(Keeps::Nothing);
     picker.want(&[0b1000_0000]).unwrap();

@@ -6,6 +6,7 @@ use Rattle.bt_meta.specs.Layout.{piece_count}
 use Rattle.bt_meta.specs.WireBits.{HasSpareBit, IsSpelled, wire_len}
 use Rattle.bt_history.specs.declared.event.Action.{Action}
 use Rattle.bt_history.specs.declared.event.Action.TheVariants.{Arrived}
+use Rattle.bt_history.specs.Before.{is_loss}
 use Rattle.bt_history.specs.declared.call.Reason.TheVariants.{NoSuchPiece, WrongLength}
 use Rattle.bt_history.specs.declared.call.Reply.TheVariants.{Failed, Had, Refused}
 use Rattle.bt_history.specs.Pieces.{content}
@@ -38,11 +39,13 @@ TakesMemory Begun (Arrived p begin bytes) = Unit {0}
 TakesMemory Begun action = ⊥
 TakesMemory Journal action = Unit {0}
 
--- worker w makes this call: its reply is one that the rules allow, and the history has gained just that; or nothing changes
+-- worker w makes this call: its reply is one that the rules allow, and the history has gained just that; or nothing changes. No journal has a
+-- call that frees blocks with no check
 abbrev pub Makes : Held → DeskState → ℕ → Action → Outcome → Type 0
 Makes h e w action (Ok r) = IsWorker (state h) w × Gains (state h) e (record { worker = w; action = action; reply = r })
 Makes h e w action (Err Worker) = (IsWorker (state h) w → ⊥) × (e ≡ state h)
 Makes h e w action (Err NoMemory) = TakesMemory (keeping h) action × IsWorker (state h) w × (e ≡ state h)
+Makes h e w action (Err Keeps) = (keeping h ≡ Journal) × (is_loss action ≡ true) × IsWorker (state h) w × (e ≡ state h)
 Makes h e w action (Err f) = ⊥
 
 -- worker w makes this call, which names piece p
@@ -51,6 +54,7 @@ MakesAt h e w p action (Ok r) = IsPiece (state h) p × Makes h e w action (Ok r)
 MakesAt h e w p action (Err Worker) = Makes h e w action (Err Worker)
 MakesAt h e w p action (Err Piece) = IsWorker (state h) w × (IsPiece (state h) p → ⊥) × (e ≡ state h)
 MakesAt h e w p action (Err NoMemory) = IsPiece (state h) p × Makes h e w action (Err NoMemory)
+MakesAt h e w p action (Err Keeps) = IsPiece (state h) p × Makes h e w action (Err Keeps)
 MakesAt h e w p action (Err f) = ⊥
 
 -- worker w makes a call with the flags that the bytes spell, as a `bitfield` message does; or nothing changes. The flags take memory

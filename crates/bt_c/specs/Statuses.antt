@@ -3,6 +3,8 @@ use Rattle.std.specs.Prelude.{ℕ, ◌+◌}
 use Rattle.bt_meta.specs.declared.fault.MetaFault.{MetaFault}
 use Rattle.bt_meta.specs.declared.fault.MetaFault.TheVariants as metainfo
 use Rattle.bt_meta.specs.Faults as meta
+use Rattle.bt_c.specs.declared.engine.Untold.{Untold}
+use Rattle.bt_c.specs.declared.engine.Untold.TheVariants as untold
 use Rattle.bt_c.specs.declared.fault.Fault.{Fault}
 use Rattle.bt_c.specs.declared.fault.Fault.TheVariants.{Shut, Open, Worker, Piece, BitsLength, SpareBits, Room, NoMemory, NotHad, Rules, NotWaiting}
 use Rattle.bt_c.specs.declared.fault.Fault.TheVariants.{NoJob, NotHashed, Place, Keeps, Options, Stale, Block, NotHeld, Begun, File, Part, Metainfo}
@@ -37,3 +39,8 @@ fault_number (Metainfo f) = 100 + meta.fault_number f
 abbrev pub of_metainfo : MetaFault → Fault
 of_metainfo metainfo.NoMemory = NoMemory
 of_metainfo fault = Metainfo fault
+
+-- why a picker answered nothing, as a fault of a call
+abbrev pub of_untold : Untold → Fault
+of_untold untold.NoMemory = NoMemory
+of_untold untold.Journal = Keeps

@@ -1,10 +1,12 @@
 //! The picker behind a handle, by what it keeps.
-ghost use Rattle.std.specs.Prelude.{◌≡◌, ◌<◌, ◌≤◌, [], ℕ, IfOk, OnErr};
+ghost use Rattle.std.specs.Prelude.{◌≡◌, ◌<◌, ◌≤◌, [], ℕ, true, IfOk, OnErr};
 ghost use Rattle.bt_history.specs.Setting.{AreRules, setting_of};
 ghost use Rattle.bt_picker.specs.Positions.{Gains};
 ghost use Rattle.bt_picker.specs.Told.{action_told, telling};
 ghost use Rattle.bt_history.specs.Entries.{action_of};
+ghost use Rattle.bt_history.specs.Before.{is_loss};
 ghost use Rattle.bt_c.specs.Calling.{TakesMemory};
+ghost use Rattle.bt_c.specs.declared.engine.Keeping.TheVariants as keeps;
 ghost use Rattle.bt_c.specs.Engines.{content_kept, keeping_of, state_of};
 
 use bt_history::{Call, MOST_WORKERS, Reply, Rules};
@@ -33,9 +35,28 @@ pub enum Engine {
     Desk(Desk),
 }
 
+/// Why an engine answers nothing to what it is told.
+#[derive(Clone, Copy, Debug, PartialEq, Eq)]
+pub enum Untold {
+    NoMemory,
+    /// No journal has such a call: it keeps what is to be lost.
+    Journal,
+}
+
+impl From<AllocError> for Untold {
+    ghost use Rattle.bt_c.specs.declared.engine.Untold.TheVariants as untold;
+
+    ghost from_gives = { λ _ e. e ≡ untold.NoMemory };
+
+    fn from(_fault: AllocError) -> Untold {
+        Untold::NoMemory
+    }
+}
+
 /// What is told, as a call that owns what it carries.
-fn owned(alloc: Global, told: Told<'_>) -> Result<Call, AllocError>
-    ensures { IfOk result (λ call. action_of call ≡ action_told told.entry) }
+fn owned(alloc: Global, told: Told<'_>) -> Result<Call, Untold>
+    ensures ok { IfOk result (λ call. action_of call ≡ action_told told.entry) }
+    ensures journal { result ≡ Err Untold.Journal → is_loss (action_told told.entry) ≡ true }
 {
     let call = match told {
         Told::Join => Call::Join,
@@ -66,6 +87,7 @@ fn owned(alloc: Global, told: Told<'_>) -> Result<Call, AllocError>
         Told::Lack(piece) => Call::Lack(piece),
         Told::Late { piece, begin } => Call::Late { piece, begin },
         Told::Alone(alone) => Call::Alone(alone),
+        Told::Lose(_) | Told::Discard { .. } => return Err(Untold::Journal),
     };
     Ok(call)
 }
@@ -122,21 +144,22 @@ impl Engine {
         }
     }
 
-    /// Answers what a worker tells of its peer. Without memory, nothing changes.
-    pub fn tell(&mut self, alloc: Global, worker: u32, told: Told<'_>) -> Result<Reply, AllocError>
+    /// Answers what a worker tells of its peer. Without memory, nothing changes, nor does a journal by what frees blocks with no check.
+    pub fn tell(&mut self, alloc: Global, worker: u32, told: Told<'_>) -> Result<Reply, Untold>
         requires { worker < (state_of self.old).setting.workers }
         ensures ok { IfOk result (λ reply. Gains (state_of self.old) (state_of self.new) (telling worker told.entry reply)) }
         ensures err { OnErr result (state_of self.new ≡ state_of self.old) }
         // Only what takes memory can lack it.
-        ensures short { OnErr result (TakesMemory (keeping_of self.old) (action_told told.entry)) }
+        ensures short { result ≡ Err Untold.NoMemory → TakesMemory (keeping_of self.old) (action_told told.entry) }
+        ensures journal { result ≡ Err Untold.Journal → (keeping_of self.old ≡ keeps.Journal) × (is_loss (action_told told.entry) ≡ true) }
         ensures keeping { keeping_of self.new ≡ keeping_of self.old }
     {
         match self {
             Engine::Picker(picker) => Ok(picker.tell(worker, told)),
-            Engine::Keeper(keeper) => keeper.tell(alloc, worker, told),
+            Engine::Keeper(keeper) => Ok(keeper.tell(alloc, worker, told)?),
             Engine::Desk(desk) => {
                 let call = owned(alloc, told)?;
-                desk.call(worker, call)
+                Ok(desk.call(worker, call)?)
             }
         }
     }

@@ -1,8 +1,9 @@
 //! Why a call at a handle did nothing.
 ghost use Rattle.std.specs.Prelude.{◌≡◌};
-ghost use Rattle.bt_c.specs.Statuses.{fault_number, of_metainfo};
+ghost use Rattle.bt_c.specs.Statuses.{fault_number, of_metainfo, of_untold};
 ghost use Rattle.bt_c.specs.declared.fault.Fault.TheVariants.{NoMemory};
 
+use crate::engine::Untold;
 use bt_meta::MetaFault;
 use std::alloc::{AllocError, AllocFailed};
 
@@ -95,6 +96,17 @@ impl From<AllocError> for Fault {
 
     fn from(_fault: AllocError) -> Fault {
         Fault::NoMemory
+    }
+}
+
+impl From<Untold> for Fault {
+    ghost from_gives = { λ fault e. e ≡ of_untold fault };
+
+    fn from(fault: Untold) -> Fault {
+        match fault {
+            Untold::NoMemory => Fault::NoMemory,
+            Untold::Journal => Fault::Keeps,
+        }
     }
 }
 

@@ -92,6 +92,37 @@ pub extern "C" fn piecepick_set_in_order_from(
     )
 }
 
+/// The piece is gone from where the caller keeps it: it isn't complete any more, and all of its blocks are lacking, as after a failed check. A
+/// picker with a journal keeps its content itself, and loses none.
+#[unsafe(no_mangle)]
+pub extern "C" fn piecepick_lose(
+    alloc: Global,
+    picker: &mut PickerHandle,
+    piece: u32,
+    answer: &mut Answer,
+) -> u32
+    ensures { Tells (λ h e o. MakesAt h e 0 piece (actions.Lose piece) o)
+        picker.old.held picker.new.held result answer.new }
+{
+    tell(call_at(alloc, picker, 0, piece, Told::Lose(piece)), answer)
+}
+
+/// The block that begins `begin` bytes into the piece, which isn't complete, is known to be bad: it is held no more.
+#[unsafe(no_mangle)]
+pub extern "C" fn piecepick_discard(
+    alloc: Global,
+    picker: &mut PickerHandle,
+    piece: u32,
+    begin: u32,
+    answer: &mut Answer,
+) -> u32
+    ensures { Tells (λ h e o. MakesAt h e 0 piece (actions.Discard piece begin) o)
+        picker.old.held picker.new.held result answer.new }
+{
+    let told = Told::Discard { piece, begin };
+    tell(call_at(alloc, picker, 0, piece, told), answer)
+}
+
 /// A picker that keeps nothing is told the SHA-1 of what arrived of a full piece.
 #[unsafe(no_mangle)]
 pub extern "C" fn piecepick_settle(
