@@ -14,7 +14,7 @@ import re
 from collections.abc import Iterable
 from dataclasses import astuple
 
-from model import Model, Refused, Rules, Torrent
+from model import LOSSES, Model, Refused, Rules, Torrent
 
 ABC = "a9993e364706816aba3e25717850c26c9cd0d89d"  # SHA-1 of abc
 A = "86f7e437faa5a7fce15d1ddcb9eaeaea377667b8"  # of a
@@ -395,6 +395,22 @@ EXAMPLES: dict[str, tuple[str, int, list[str]]] = {  # name: torrent, workers, l
     "refusals_of_alone": ("two_blocks", 1, [
         "0 alone yes = refused NotJoined", "0 join = joined", "0 alone yes = quiet", "0 alone yes = quiet", "0 alone no = quiet",
         "0 bits c0 = noted yes"]),
+    "lost_piece_is_asked_again": ("one_piece", 1, enters(0, "80") + ["0 next 0 = request 0 0 3"] + checked(0, 0, "616263") + [
+        "0 next 0 = nothing", "0 lose 0 = failed", "0 next 0 = request 0 0 3"] + checked(0, 0, "616263") + ["0 next 0 = nothing"]),
+    "lost_with_a_block_in_flight": ("two_blocks", 1, enters(0, "c0") + [
+        "0 next 0 = request 0 0 16384", "0 block 0 0 X = stored", "0 next 0 = request 0 16384 16384", "0 lose 0 = failed",
+        "0 next 1 = request 0 0 16384", "0 block 0 0 X = stored"]),
+    "discarded_block_is_asked_again": ("two_blocks", 1, enters(0, "c0") + [
+        "0 next 0 = request 0 0 16384", "0 block 0 0 X = stored", "0 next 0 = request 0 16384 16384", "0 discard 0 0 = failed",
+        "0 next 1 = request 0 0 16384", "0 block 0 16384 X = stored", "0 block 0 0 X = completed"]),
+    "discarded_block_was_the_only_one": ("two_blocks", 1, enters(0, "c0") + [
+        "0 next 0 = request 0 0 16384", "0 block 0 0 X = stored", "0 discard 0 0 = failed", "0 next 1 = request 1 0 16384"]),
+    "discarded_before_its_check": ("one_piece", 1, [
+        "0 join = joined", "0 block 0 0 616264 = completed", "0 discard 0 0 = failed", "0 settle 0 616264 = refused NotWaiting"]
+        + checked(0, 0, "616263") + ["0 discard 0 0 = refused NotWaiting"]),
+    "refusals_of_losses": ("short_last", 1, [
+        "0 lose 3 = refused NoSuchPiece", "0 discard 3 0 = refused NoSuchPiece", "0 discard 0 1 = refused NoSuchBlock", "0 lose 0 = failed",
+        "0 discard 0 0 = failed", "0 join = joined", "0 bits e0 = noted yes"]),
 }
 
 WRONG: dict[str, tuple[str, int, str]] = {  # name: example, how many entries of it came before, the wrong entry
@@ -596,6 +612,19 @@ WRONG: dict[str, tuple[str, int, str]] = {  # name: example, how many entries of
     "bitfield_late_by_an_alone": ("refusals_of_alone", 5, "0 bits c0 = refused LateBits"),
     "late_of_another_peers_block_taken": ("refusals_of_late", 11, "1 late 0 0 = quiet"),
     "late_of_a_released_block_taken": ("refusals_of_late", 15, "0 late 0 0 = quiet"),
+    "lost_piece_stays_complete": ("lost_piece_is_asked_again", 8, "0 next 0 = nothing"),
+    "loss_needs_a_check": ("lost_piece_is_asked_again", 7, "0 lose 0 = refused NotWaiting"),
+    "request_in_flight_ends_by_a_loss": ("lost_with_a_block_in_flight", 7, "0 next 1 = request 0 16384 16384"),
+    "lost_piece_is_begun_no_more": ("lost_with_a_block_in_flight", 7, "0 next 1 = request 1 0 16384"),
+    "lost_block_is_dropped": ("lost_with_a_block_in_flight", 8, "0 block 0 0 X = dropped"),
+    "discarded_block_is_dropped": ("discarded_block_is_asked_again", 9, "0 block 0 0 X = stored"),
+    "piece_of_a_discarded_block_is_passed_by": ("discarded_block_is_asked_again", 7, "0 next 1 = request 1 0 16384"),
+    "settled_though_a_block_was_discarded": ("discarded_before_its_check", 3, "0 settle 0 616264 = failed"),
+    "block_of_a_complete_piece_is_discarded": ("discarded_before_its_check", 6, "0 discard 0 0 = failed"),
+    "no_such_piece_is_lost": ("refusals_of_losses", 0, "0 lose 3 = failed"),
+    "no_such_block_is_discarded": ("refusals_of_losses", 2, "0 discard 0 1 = failed"),
+    "loss_needs_a_peer": ("refusals_of_losses", 3, "0 lose 0 = refused NotJoined"),
+    "bitfield_late_by_a_loss": ("refusals_of_losses", 6, "0 bits e0 = refused LateBits"),
 }
 
 WRONG_IN_AUDITS: dict[str, tuple[int, str]] = {  # example: how many entries of it came before, the wrong entry; for the examples that have none above
@@ -661,6 +690,8 @@ def action(words: list[str], pieces: int) -> str:
         case ["depth", depth]: return f"(Depth {depth})"
         case ["release", piece, begin]: return f"(Release {piece} {begin})"
         case ["late", piece, begin]: return f"(Late {piece} {begin})"
+        case ["lose", piece]: return f"(Lose {piece})"
+        case ["discard", piece, begin]: return f"(Discard {piece} {begin})"
         case ["level", piece, level]: return f"(Level {piece} {level})"
         case ["levels", digits]: return f"(Levels ({items(digits)}))"
         case ["inorderfrom", level]: return f"(InOrderFrom {level})"
@@ -783,7 +814,7 @@ def judge(name: str) -> None:
     """Stops where the rules don't allow a line of the example, or allow a wrong one."""
     torrent, workers, lines = EXAMPLES[name]
     piece_length, total, hashes = TORRENTS[torrent]
-    model = Model(Torrent(piece_length, total, tuple(map(bytes.fromhex, hashes))), workers, rules_of(name))
+    model = Model(Torrent(piece_length, total, tuple(map(bytes.fromhex, hashes))), workers, rules_of(name), with_losses=True)
     wrongs = [(before, line) for example, before, line in WRONG.values() if example == name]
     wrongs += [WRONG_IN_AUDITS[name]] if name in WRONG_IN_AUDITS else []
     for at, line in enumerate([*lines, ""]):
@@ -851,9 +882,16 @@ def plain_line(line: str) -> str:
     return f"{call} = {reply}"
 
 
+def is_of_a_desk(lines: list[str]) -> bool:
+    """Whether a desk can make the calls of these lines: it loses nothing."""
+    return not any(line.split()[1] in LOSSES for line in lines)
+
+
 def audits() -> None:
     texts = []
     for name, (torrent, workers, lines) in EXAMPLES.items():
+        if not is_of_a_desk(lines):
+            continue
         piece_length, total, hashes = TORRENTS[torrent]
         wrongs = [(before, line) for example, before, line in WRONG.values() if example == name]
         wrongs += [WRONG_IN_AUDITS[name]] if name in WRONG_IN_AUDITS else []

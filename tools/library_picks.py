@@ -1,11 +1,12 @@
 """Random scripts at the library (clients/build.sh), each reply of which is judged by the plain model. `tools/fuzz.py picks --library` plays them.
 
-Their rules also bound the askers of a block in endgame, and let greater depths be told: no script of the program says these. Of each request
-the rule that the library tells is judged too.
+Their rules also bound the askers of a block in endgame, and let greater depths be told: no script of the program says these. Every second
+picker keeps no journal, and loses pieces and discards blocks. Of each request the rule that the library tells is judged too.
 """
 
 from __future__ import annotations
 
+import hashlib
 import os
 import random
 import sys
@@ -21,7 +22,7 @@ from piecepick import Answer, Keeps, Kind, Picker, PiecepickError, Status  # noq
 OTHER_WORDS = {Kind.PIPE_FULL: "pipefull", Kind.NOTHING_LEFT: "nothing"}
 # Causes that the library tells by a status, and the program as a refusal.
 STATUSES = {Status.PIECE: NO_SUCH_PIECE, Status.NOT_WAITING: NOT_WAITING}
-WITH_PIECE = ("have", "lack", "block", "settle", "release", "late", "level")
+WITH_PIECE = ("have", "lack", "block", "settle", "release", "late", "level", "lose", "discard")
 
 
 def words_of(answer: Answer) -> str:
@@ -35,9 +36,23 @@ def words_of(answer: Answer) -> str:
     return OTHER_WORDS.get(answer.kind, answer.kind.name.lower())
 
 
-def answer_to(picker: Picker, model: Model, line: str) -> Answer:
+def settled(picker: Picker, model: Model, keeps: Keeps, piece: int) -> Answer:
+    """Has the piece checked, by what the picker keeps. Where that is nothing, the model has what was stored."""
+    if keeps is Keeps.JOURNAL:
+        return picker.settle_now(piece)
+    if keeps is Keeps.NOTHING:
+        blocks = model.blocks[piece] if piece < model.pieces else []
+        return picker.settle(piece, hashlib.sha1(b"".join(model.held.get(block, b"") for block in blocks)).digest())
+    with picker.job(piece) as job:
+        job.hash()
+        return job.settle()
+
+
+def answer_to(picker: Picker, model: Model, keeps: Keeps, line: str) -> Answer:
     """Makes the call that the line says."""
     worker, word, arguments = model.parse(line)
+    if word == "settle":
+        return settled(picker, model, keeps, *arguments)
     if word in ("bits", "haves"):
         shows: Callable[..., Answer] = getattr(picker, word)
         return shows(worker, bytes.fromhex(line.split(" ")[2]))
@@ -48,7 +63,8 @@ def answer_to(picker: Picker, model: Model, line: str) -> Answer:
     if word == "block":
         return picker.arrived(worker, *arguments)
     without_worker: dict[str, Callable[..., Answer]] = {
-        "settle": picker.settle_now, "level": picker.set_level, "inorder": picker.set_in_order, "inorderfrom": picker.set_in_order_from,
+        "level": picker.set_level, "inorder": picker.set_in_order, "inorderfrom": picker.set_in_order_from,
+        "lose": picker.lose, "discard": picker.discard,
     }  # fmt: skip
     if word in without_worker:
         return without_worker[word](*arguments)
@@ -56,10 +72,10 @@ def answer_to(picker: Picker, model: Model, line: str) -> Answer:
     return call(worker, *arguments)
 
 
-def reply_to(picker: Picker, model: Model, line: str) -> str:
+def reply_to(picker: Picker, model: Model, keeps: Keeps, line: str) -> str:
     """What the library says to the line."""
     try:
-        return words_of(answer_to(picker, model, line))
+        return words_of(answer_to(picker, model, keeps, line))
     except PiecepickError as error:
         return f"refused {STATUSES[error.status]}" if error.status in STATUSES else f"status {error.status.name}"
 
@@ -80,23 +96,26 @@ def names_no_piece(model: Model, line: str) -> bool:
 
 def play(seed: str, index: int, with_open: bool = False) -> Played:
     """Plays the script of this number, and judges each reply. The model goes on from what was given."""
-    script = Script(random.Random(f"{seed} library {index}"), with_bounds=True, with_open=with_open)
+    keeps = (Keeps.JOURNAL, Keeps.NOTHING, Keeps.JOURNAL, Keeps.BEGUN)[index % 4]
+    with_losses = keeps is not Keeps.JOURNAL
+    script = Script(random.Random(f"{seed} library {index}"), with_bounds=True, with_open=with_open, with_losses=with_losses)
     rules, workers = script.rules, len(script.model.peers)
-    model = Model(script.torrent, workers, rules)
+    model = Model(script.torrent, workers, rules, with_losses)
     numbers = {name: getattr(rules, name) for name in ("depth", "deepest", "random", "askers", "open", "rush")}
     digests = b"".join(script.torrent.hashes)
     replies: Counter[str] = Counter()
     wrong = []
     with Picker.of_parts(
-        script.torrent.piece_length, script.torrent.total, digests, keeps=Keeps.JOURNAL, workers=workers, shown=rules.shown, **numbers
+        script.torrent.piece_length, script.torrent.total, digests, keeps=keeps, workers=workers, shown=rules.shown, **numbers
     ) as picker:
         for line in script.lines[2:]:
-            given = reply_to(picker, model, line)
+            given = reply_to(picker, model, keeps, line)
             wanted = f"refused {NO_SUCH_PIECE}" if names_no_piece(model, line) else model.play(line, given)
             replies[given.split(" ")[0]] += 1
             if given == wanted:
                 wanted, given = with_rule(picker, model, given)
             if given != wanted:
                 wrong.append(Wrong(line, wanted, given))
-        picker.audit()
+        if keeps is Keeps.JOURNAL:
+            picker.audit()
     return Played(index, script.picks(), replies, wrong, f"seed {seed}" if wrong else None)

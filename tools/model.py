@@ -115,7 +115,8 @@ class Peer:
 class Model:
     """All that a history says, and what is replied to its next call."""
 
-    def __init__(self, torrent: Torrent, workers: int, rules: Rules) -> None:
+    def __init__(self, torrent: Torrent, workers: int, rules: Rules, with_losses: bool = False) -> None:
+        self.forms = {**FORMS, **LOSSES} if with_losses else FORMS
         self.torrent = torrent
         self.rules = rules
         self.peers = [Peer() for _ in range(workers)]
@@ -384,9 +385,26 @@ class Model:
         if hashlib.sha1(content).digest() == self.torrent.hashes[piece]:
             self.had.add(piece)
             return "had"
-        for block in self.blocks[piece]:
-            del self.held[block], self.senders[block]
+        return self.free_blocks(self.blocks[piece])
+
+    def free_blocks(self, blocks: list[Block]) -> str:
+        """These are held no more."""
+        for block in blocks:
+            self.held.pop(block, None)
+            self.senders.pop(block, None)
         return "failed"
+
+    def call_lose(self, _peer: Peer, piece: int) -> str:
+        self.need(piece < self.pieces, NO_SUCH_PIECE)
+        self.had.discard(piece)
+        return self.free_blocks(self.blocks[piece])
+
+    def call_discard(self, _peer: Peer, piece: int, begin: int) -> str:
+        self.need(piece < self.pieces, NO_SUCH_PIECE)
+        blocks = [block for block in self.blocks[piece] if block.begin == begin]
+        self.need(bool(blocks), NO_SUCH_BLOCK)
+        self.need(piece not in self.had, NOT_WAITING)
+        return self.free_blocks(blocks)
 
     def call_want(self, _peer: Peer, flags: set[int]) -> str:
         self.levels = [USUAL_LEVEL if piece in flags else 0 for piece in range(self.pieces)]
@@ -454,7 +472,7 @@ class Model:
         if number(worker, 32) >= len(self.peers) or not rest:
             raise NotALine(line)
         word, *texts = rest
-        forms = FORMS.get(word)
+        forms = self.forms.get(word)
         if forms is None or len(forms) != len(texts):
             raise NotALine(line)
         return int(worker), word, [self.argument(form, text) for form, text in zip(forms, texts)]
@@ -491,6 +509,9 @@ FORMS: dict[str, list[str]] = {
     "block": ["32", "32", "bytes"], "release": ["32", "32"], "late": ["32", "32"],
     "level": ["32", "8"], "levels": ["digits"], "inorder": ["yes"], "inorderfrom": ["8"], "reach": ["8"], "alone": ["yes"],
 }
+
+# and behind those that no script has: a desk loses nothing
+LOSSES: dict[str, list[str]] = {"lose": ["32"], "discard": ["32", "32"]}
 
 
 def is_digits(text: str) -> bool:

@@ -42,6 +42,7 @@ class Mood(NamedTuple):
     reach: int
     alone: int
     stray: int
+    loss: int = 0
 
 
 MOODS = [
@@ -58,6 +59,12 @@ MOODS = [
     Mood(45, 25, 12, 2, 0, 0, 2, 1, 4, 3, 1, 0, 0, 0, 0, 0, 0),
 ]
 
+# Of pickers that may lose pieces: of these the first has whole pieces to lose, and the second has blocks to discard.
+LOSSES = [
+    Mood(45, 25, 12, 2, 1, 1, 3, 1, 5, 4, 1, 2, 1, 1, 2, 3, 1, 14),
+    Mood(45, 16, 2, 3, 2, 2, 4, 1, 5, 6, 2, 2, 1, 1, 2, 8, 1, 14),
+]
+
 
 def line_of(rules: Rules) -> str:
     """The line that sets the rules. From the end what is as usual is left out."""
@@ -70,11 +77,11 @@ def line_of(rules: Rules) -> str:
 class Script:
     """A random script, written beside the model, with the reply that each of its lines has to have."""
 
-    def __init__(self, rng: random.Random, with_bounds: bool = False, with_open: bool = False) -> None:
+    def __init__(self, rng: random.Random, with_bounds: bool = False, with_open: bool = False, with_losses: bool = False) -> None:
         self.rng = rng
-        self.mood = rng.choice(MOODS)
+        self.mood = rng.choice(LOSSES if with_losses else MOODS)
         # Whose a piece is matters where it has several blocks.
-        self.torrent = self.made_torrent(LONG_PIECES if self.mood.alone > self.mood.release else PIECE_LENGTHS)
+        self.torrent = self.made_torrent(LONG_PIECES if max(self.mood.alone, self.mood.loss) > self.mood.release else PIECE_LENGTHS)
         workers = rng.randrange(1, 6)
         askers = rng.choice([1, 1, 2, 2, 3, 4, MOST_WORKERS]) if with_bounds else MOST_WORKERS
         deepest = rng.choice([1, 2, 8, 64, 500]) if with_bounds else MOST_DEPTH
@@ -87,7 +94,7 @@ class Script:
         self.rules = Rules(depth, at_random, askers, deepest, most_open, rush, shown=with_open and rng.randrange(3) > 0)
         # A piece that bitfields leave out, so that mostly nobody has it.
         self.nowhere = rng.randrange(len(self.torrent.hashes)) if with_open and rng.randrange(2) else None
-        self.model = Model(self.torrent, workers, self.rules)
+        self.model = Model(self.torrent, workers, self.rules, with_losses)
         digests = " ".join(digest.hex() for digest in self.torrent.hashes)
         self.lines = [f"torrent {self.torrent.piece_length} {self.torrent.total} {workers} {digests}"]
         self.lines.append(line_of(self.rules))
@@ -254,6 +261,20 @@ class Script:
     def say_alone(self, worker: int) -> None:
         self.say(worker, f"alone {self.rng.choice(['yes', 'yes', 'no'])}")
         # It goes on with pieces of its own alone, and others pass these by.
+        self.ask_two(worker)
+
+    def say_loss(self, worker: int) -> None:
+        complete, held = sorted(self.model.had), sorted(self.model.held)
+        if complete and self.rng.randrange(3):
+            self.say(worker, f"lose {self.rng.choice(complete)}")
+        elif held and self.rng.randrange(6):
+            block = self.rng.choice(held)
+            self.say(worker, f"discard {block.piece} {block.begin}")
+        else:
+            block = self.some_block()
+            words = [f"lose {self.piece()}", f"discard {self.piece()} {block.begin}", f"discard {block.piece} {block.begin + 1}"]
+            self.say(worker, self.rng.choice(words))
+        # What was complete or held may be asked of anybody again.
         self.ask_two(worker)
 
     def say_stray(self, worker: int) -> None:

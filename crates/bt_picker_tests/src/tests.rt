@@ -11,6 +11,7 @@ mod groups;
 mod keeper;
 mod large;
 mod logs;
+mod losing;
 mod meeting;
 mod parts;
 mod played;

@@ -10,7 +10,7 @@ use std::sync::Arc;
 use std::test::*;
 
 /// The worker that stands for the disk.
-const DISK: u32 = 1;
+pub const DISK: u32 = 1;
 
 /// The SHA-1 of 32,773 bytes of zero, by another program.
 const ZEROS: [u8; 20] = [
@@ -19,20 +19,20 @@ const ZEROS: [u8; 20] = [
 ];
 
 /// A picker of this torrent, for a peer and a disk.
-fn picker_of(rt: &impl Abort, alloc: Global, torrent: Torrent) -> Result<Picker, Fail> {
+pub fn picker_of(rt: &impl Abort, alloc: Global, torrent: Torrent) -> Result<Picker, Fail> {
     assert!(rt; torrent.piece_count() > 0);
     let torrent = Arc::new(alloc, torrent)?;
     Ok(Picker::new(alloc, torrent, 2, Rules::usual())?)
 }
 
 /// The disk has these bytes of the piece.
-fn restores(rt: &impl Abort, picker: &mut Picker, piece: u32, bytes: &[u8], wanted: Restored) {
+pub fn restores(rt: &impl Abort, picker: &mut Picker, piece: u32, bytes: &[u8], wanted: Restored) {
     let digest = Sha1::digest(bytes);
     assert_eq!(rt; picker.restore(DISK, piece, bytes, &digest), wanted);
 }
 
 /// The worker tells this, and has this reply.
-fn tells(rt: &impl Abort, picker: &mut Picker, worker: u32, told: Told<'_>, wanted: Reply) {
+pub fn tells(rt: &impl Abort, picker: &mut Picker, worker: u32, told: Told<'_>, wanted: Reply) {
     assert_eq!(rt; picker.tell(worker, told), wanted);
 }
 
@@ -133,7 +133,7 @@ fn who_brought_a_block(rt: HostRuntime) -> Result<(), Fail> {
 }
 
 /// The worker's peer brings these bytes, so many bytes into piece 0.
-fn brings(
+pub fn brings(
     rt: &impl Abort,
     picker: &mut Picker,
     worker: u32,
@@ -150,7 +150,7 @@ fn brings(
 }
 
 /// Block `index` of piece 0 came from this worker's peer, or isn't held.
-fn sent_by(rt: &impl Abort, picker: &Picker, index: u32, wanted: Option<u32>) {
+pub fn sent_by(rt: &impl Abort, picker: &Picker, index: u32, wanted: Option<u32>) {
     let torrent = picker.torrent();
     assert!(rt; torrent.piece_count() > 0);
     assert!(rt; index < torrent.block_count(0));

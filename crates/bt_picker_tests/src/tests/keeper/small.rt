@@ -74,6 +74,26 @@ fn a_wrong_block_is_asked_for_again(rt: HostRuntime) -> Result<(), Fail> {
     Ok(())
 }
 
+/// A wrong block is discarded before its check, and a piece that was had is lost: each is asked for again, and comes.
+#[test]
+fn what_is_freed_is_asked_for_again(rt: HostRuntime) -> Result<(), Fail> {
+    let alloc = rt.alloc();
+    let mut keeper = three_pieces(&rt, alloc)?;
+    let first = asks(&rt, alloc, &mut keeper)?;
+    brings(&rt, alloc, &mut keeper, 0, 0, b"xyz", Reply::Completed)?;
+    let discard = Told::Discard { piece: 0, begin: 0 };
+    tells(&rt, alloc, &mut keeper, discard, Reply::Failed)?;
+    assert!(rt; !keeper.picker().is_waiting(0));
+    brings(&rt, alloc, &mut keeper, 0, 0, b"abc", Reply::Completed)?;
+    settles(&rt, keeper.settle_now(0, 0), Reply::Had, Some(b"abc"));
+    tells(&rt, alloc, &mut keeper, Told::Lose(0), Reply::Failed)?;
+    let again = asks(&rt, alloc, &mut keeper)?;
+    assert!(rt; again == first);
+    brings(&rt, alloc, &mut keeper, 0, 0, b"abc", Reply::Completed)?;
+    settles(&rt, keeper.settle_now(0, 0), Reply::Had, Some(b"abc"));
+    Ok(())
+}
+
 /// A verdict of bytes that were replaced since is stale, and the piece still waits.
 #[test]
 fn a_verdict_of_replaced_bytes_is_refused(rt: HostRuntime) -> Result<(), Fail> {
