@@ -41,12 +41,13 @@ class Content:
         self.infohash = picker.infohash
         self.disk = picker.workers - 1
         self.had = bytearray((layout.pieces + 7) // 8)  # as in a `bitfield` message
-        self.had_count = self.had_bytes = self.restored_bytes = self.failed = 0
+        self.had_count = self.had_bytes = self.restored_bytes = self.failed = self.discarded = 0
         self.held: dict[int, bytearray] = {}  # of each begun piece a byte a block
         self.missing = {file.number: len(layout.pieces_of(file)) for file in layout.files}  # pieces of a file that aren't had
         self.blame = Blame()
         self.owners: dict[int, Sender] = {}  # of each worker the peer that has it, or had it last
         self.is_saved = True
+        self.has_lost = False  # a piece, since somebody looked
 
     def has(self, piece: int) -> bool:
         """Whether the piece is had."""
@@ -142,9 +143,26 @@ class Content:
         self.is_saved = False
         if is_had:
             self._note(piece)
-            return Verdict(piece, True, set(senders), self.blame.cleared(piece, check.blocks))
-        self.failed += 1
-        return Verdict(piece, False, set(senders), self.blame.failed(piece, senders, check.blocks))
+            liars = self.blame.cleared(piece, check.blocks)
+        else:
+            self.failed += 1
+            liars = self.blame.failed(piece, senders, check.blocks)
+        if liars:
+            self._discard_from(liars)
+        return Verdict(piece, is_had, set(senders), liars)
+
+    def _discard_from(self, liars: set[Address]) -> None:
+        """What these peers sent of begun pieces is asked for again. A piece that is full is left to its check."""
+        for piece, flags in list(self.held.items()):
+            if all(flags):
+                continue
+            for block, flag in enumerate(flags):
+                if flag and self.owners.get(self.picker.sender(piece, block)) in liars:
+                    self.picker.discard(piece, block * BLOCK)
+                    flags[block] = 0
+                    self.discarded += 1
+            if not any(flags):
+                del self.held[piece]
 
     def _note(self, piece: int) -> None:
         """The piece is had: files that are whole get their names."""
@@ -155,6 +173,17 @@ class Content:
             self.missing[file.number] -= 1
             if self.missing[file.number] == 0:
                 self.storage.finish(file)
+
+    def lose(self, piece: int) -> None:
+        """A piece that was had can't be read any more: it is downloaded again. Raises StorageFault where its file is gone."""
+        self.picker.lose(piece)
+        self.had[piece >> 3] &= ~(0x80 >> (piece & 7))
+        self.had_count -= 1
+        self.had_bytes -= self.layout.length_of(piece)
+        for file in self.layout.files_of(piece):
+            self.missing[file.number] += 1
+            self.storage.reopen(file)
+        self.is_saved, self.has_lost = False, True
 
     def names_a_sender(self, worker: int) -> bool:
         """Whether a block of a piece that isn't had is from this worker's peer, so that another peer can't have its number yet."""

@@ -194,6 +194,7 @@ class Download:
             "late_bitfields": figures.late_bitfields,
             "timeouts": figures.timeouts,
             "failed": parts.content.failed,
+            "discarded": parts.content.discarded,
             "connections": parts.swarm.connections,
             "lost": parts.swarm.lost,
             "banned": parts.swarm.banned,

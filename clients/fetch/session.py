@@ -366,7 +366,8 @@ class Session:
             if verdict.is_had:
                 for peer in self.peers.values():
                     peer.say(Message.HAVE, verdict.piece)
-        if any(not verdict.is_had for verdict in verdicts):
+        if self.content.has_lost or any(not verdict.is_had for verdict in verdicts):
+            self.content.has_lost = False
             self.reconsider()
         elif verdicts and self.picker.has_wanted:
             for peer in self.peers.values():

@@ -4,7 +4,6 @@ from __future__ import annotations
 
 from .content import Content
 from .peer import Peer
-from .storage import StorageFault
 from .wire import Message, WireFault, spell_block
 
 LONGEST_REQUEST = 1 << 17  # bytes
@@ -69,17 +68,27 @@ class Uploads:
             peer.say(Message.REJECT, *wanted)
 
     def serve(self, peer: Peer, now: float) -> None:
-        """Reads what the peer wants, until enough waits to be sent. Raises StorageFault where a piece that is had isn't there."""
+        """Reads what the peer wants, until enough waits to be sent. Raises StorageFault where the file of a piece that was had is gone."""
         while peer.wants and len(peer.unsent) < MOST_UNSENT and self.limit.allows(now):
             (piece, begin, length), _ = peer.wants.popitem(last=False)
-            try:
-                block = self.content.storage.read(piece * self.content.layout.piece_length + begin, length)
-            except OSError as error:
-                raise StorageFault(f"piece {piece} was there and can't be read: {error.strerror}") from error
+            block = self._read(piece, begin, length)
+            if block is None:
+                self._reject(peer, (piece, begin, length))
+                continue
             peer.unsent += spell_block(piece, begin, block)
             peer.up.add(length, now)
             self.limit.take(length)
             self.total += length
+
+    def _read(self, piece: int, begin: int, length: int) -> bytearray | None:
+        """A part of a piece. One that can't be read is lost, and has no part."""
+        if not self.content.has(piece):
+            return None
+        try:
+            return self.content.storage.read(piece * self.content.layout.piece_length + begin, length)
+        except OSError:
+            self.content.lose(piece)
+            return None
 
     def choke(self, peer: Peer) -> None:
         """The peer gets nothing for now; what it waits for is rejected."""

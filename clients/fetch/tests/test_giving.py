@@ -2,6 +2,7 @@
 
 from __future__ import annotations
 
+import os
 import signal
 import time
 import unittest
@@ -94,6 +95,35 @@ class Nothing(Answers):
         self.assertEqual(self.said(self.peer(False)), b"")
 
     test_given = test_choke_rejects = test_cancel = test_interest = None  # type: ignore[assignment]  # tests of another state
+
+
+class Lost(Speaking):
+    """A piece that was there. Of the content the pieces 0 to 9 are."""
+
+    def test_lost(self) -> None:
+        """A piece that can't be read any more is rejected, and comes again from who has it."""
+        peer = self.peer(True)
+        self.session.uploads.unchoke(peer)
+        self.download.parts.picker.set_levels(bytes(4 * (piece == 3) for piece in range(PIECES)))
+        self.said(peer)
+        self.assertEqual(self.hear(peer, message(HAVE_ALL) + message(UNCHOKE)), b"")
+        os.truncate(f"{self.download.parts.root}.part", 3 * PIECE)
+        wanted = (3, 0, BLOCK)
+        self.session.receive(peer, message(REQUEST, *wanted) + message(REQUEST, 3, BLOCK, BLOCK))
+        self.session.uploads.serve(peer, self.session.now)
+        self.assertEqual(self.said(peer), message(REJECT, *wanted) + message(REJECT, 3, BLOCK, BLOCK))
+        self.assertEqual((self.session.content.has(3), self.session.content.had_count), (False, 9))
+        self.session.settle()
+        self.session.ask_idle()
+        requests = b"".join(message(REQUEST, 3, begin, BLOCK) for begin in range(0, PIECE, BLOCK))
+        self.assertEqual(self.said(peer), message(INTERESTED) + requests)
+        for begin in range(0, PIECE, BLOCK):
+            self.hear(peer, message(BLOCK_MESSAGE, 3, begin, data=CONTENT[3 * PIECE + begin :][:BLOCK]))
+        end = time.monotonic() + 10
+        while not self.session.settle() and time.monotonic() < end:
+            time.sleep(0.01)
+        self.said(peer)
+        self.assertEqual(self.hear(peer, message(REQUEST, *wanted)), message(BLOCK_MESSAGE, 3, 0, data=CONTENT[3 * PIECE :][:BLOCK]))
 
 
 class All(Answers):

@@ -157,6 +157,33 @@ class Five(Suspected):
         self.assertEqual(self.deepen(other, 2), {0})  # where the fifth peer works too
 
 
+class One(Suspected):
+    """A liar, which is alone at first."""
+
+    had = 0
+    seeders = lies_at = 1
+
+    def send_block(self, piece: int, begin: int) -> None:
+        """The liar sends a block of zeros."""
+        self.assertIn((piece, begin), self.liar.asked)
+        self.hear(self.liar, message(BLOCK_MESSAGE, piece, begin, data=bytes(BLOCK)))
+
+    def test_discarded(self) -> None:
+        """Whoever is named has sent blocks of other pieces too. They are asked for again, so that no further piece fails."""
+        self.deepen(self.liar, 6)
+        self.send_block(1, 0)
+        for begin in range(BLOCK, PIECE, BLOCK):
+            self.send_block(0, begin)
+        self.assertEqual((self.content.held[1], self.content.discarded), (bytearray([1, 0, 0, 0]), 0))
+        self.bring(self.liar)
+        self.assertTrue(self.swarm.addresses.is_banned(self.liar.address))
+        self.assertEqual((self.content.failed, self.content.discarded, self.content.held), (1, 1, {}))
+        self.peers = [self.joined(2)]
+        for _ in range(4 * PIECES):
+            self.bring_each()
+        self.assertEqual((self.content.failed, self.content.had_count), (1, PIECES))
+
+
 class Two(Suspected):
     """Two peers, and three pieces that aren't there. Both bring piece 38, which is wrong, and have begun piece 39 by then."""
 
