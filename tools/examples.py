@@ -13,6 +13,7 @@ import copy
 import re
 from collections.abc import Iterable
 from dataclasses import astuple
+from typing import Any
 
 from model import LOSSES, Model, Refused, Rules, Torrent
 
@@ -31,7 +32,6 @@ TORRENTS: dict[str, tuple[int, int, list[str]]] = {  # name: piece length, total
     "four_pairs": (32768, 131072, [ABC, ABC, ABC, ABC]),
     "two_pairs_and_a_byte": (32768, 65537, [ABC, ABC, A]),
 }
-
 
 
 def enters(worker: int, bits: str) -> list[str]:
@@ -385,8 +385,9 @@ EXAMPLES: dict[str, tuple[str, int, list[str]]] = {  # name: torrent, workers, l
     "another_brings_a_block_of_its_own": ("two_blocks", 2, enters(0, "c0") + enters(1, "c0") + [
         "0 next 0 = request 0 0 16384", "0 release 0 0 = quiet", "1 alone yes = quiet", "1 next 0 = request 0 0 16384",
         "0 block 0 0 X = stored", "1 next 0 = cancel 0 0 16384", "1 next 0 = request 1 0 16384", "0 next 0 = request 0 16384 16384"]),
-    "alone_goes_with_its_peer": ("two_blocks", 2, ["0 join = joined", "0 alone yes = quiet", "0 leave = quiet"]
-        + enters(0, "c0") + enters(1, "c0") + ["1 next 0 = request 0 0 16384", "0 next 0 = request 0 16384 16384"]),
+    "alone_goes_with_its_peer": ("two_blocks", 2, [
+        "0 join = joined", "0 alone yes = quiet", "0 leave = quiet", *enters(0, "c0"), *enters(1, "c0"),
+        "1 next 0 = request 0 0 16384", "0 next 0 = request 0 16384 16384"]),
     "alone_in_order": ("two_blocks", 2, ["0 inorder yes = quiet"] + enters(0, "c0") + enters(1, "c0") + [
         "1 alone yes = quiet", "1 next 0 = request 0 0 16384", "0 next 0 = request 1 0 16384", "1 next 0 = request 0 16384 16384"]),
     "two_work_alone": ("two_blocks", 2, enters(0, "c0") + enters(1, "c0") + [
@@ -655,7 +656,8 @@ def rules(name: str) -> str:
 
 def rules_of(name: str) -> Rules:
     """The rules of an example, by the model."""
-    return Rules(*RULES.get(name, ()))
+    chosen: list[Any] = [*RULES.get(name, ())]  # numbers, and a flag behind them
+    return Rules(*chosen)
 
 
 def items(xs: Iterable[str]) -> str:

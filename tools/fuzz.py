@@ -220,8 +220,10 @@ def try_one(program: str, seed: int, with_open: bool, index: int) -> Tried:
     """Feeds the input of this number."""
     rng = random.Random(f"{seed} {index}")
     folder = tempfile.mkdtemp(prefix="fuzz-")
-    kinds: list[Callable[[random.Random, str], tuple[list[str], bytes]]] = [recording, recording, metainfo]
-    words, stdin = rng.choice([*kinds, functools.partial(script, with_open=with_open)])(rng, folder)
+    kinds: list[Callable[[random.Random, str], tuple[list[str], bytes]]] = [
+        recording, recording, metainfo, functools.partial(script, with_open=with_open),
+    ]  # fmt: skip
+    words, stdin = rng.choice(kinds)(rng, folder)
     status: int | None = None
     try:
         done = subprocess.run([program, *words], input=stdin, capture_output=True, timeout=60)
