@@ -1,5 +1,5 @@
 #!/bin/sh
-# Installs what build.sh made: the header, the archive, the shared object, and what pkg-config and CMake read.
+# Installs what build.sh made, or else what is in the folder `release`: the header, the archive, the shared object, and what pkg-config and CMake read.
 #
 #   clients/install.sh                   into /usr/local
 #   PREFIX=/usr LIBDIR=/usr/lib/x86_64-linux-gnu DESTDIR=stage clients/install.sh
@@ -25,7 +25,7 @@ lib=${DESTDIR:-}$libdir
 
 # What the built header says; before it has a version, the interface's number stands for it.
 numbers() {
-    [ -f "$here/out/piecepick.h" ] || fail "clients/out has no header: run clients/build.sh first"
+    [ -f "$here/out/piecepick.h" ] || "$here/take.sh" || fail "clients/out has no header"
     abi=$(sed -n 's/^#define PIECEPICK_ABI \([0-9][0-9]*\)u$/\1/p' "$here/out/piecepick.h")
     version=$(sed -n 's/^#define PIECEPICK_VERSION "\([^"]*\)"$/\1/p' "$here/out/piecepick.h")
     [ -n "$abi" ] || fail "clients/out/piecepick.h has no line '#define PIECEPICK_ABI Nu'"

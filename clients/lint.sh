@@ -34,7 +34,7 @@ if has flake8 flake8 --version; then
     flake8 --config "$here/flake8.ini" "$here" "$root/tools" || bad flake8
 fi
 if has shellcheck shellcheck --version; then
-    shellcheck "$root/piecepick" "$root/.ci/run" "$here"/*.sh "$root"/tools/*/*.sh || bad shellcheck
+    shellcheck "$root/piecepick" "$root/test" "$root/.ci/run" "$here"/*.sh "$root"/tools/*.sh "$root"/tools/*/*.sh || bad shellcheck
 fi
 
 # rust FOLDER: clippy over a crate and its tests. Nothing is linked, so an empty file stands for the library.

@@ -1,16 +1,27 @@
 #!/bin/sh
-# Compiles the examples and the tests as C11 and as C++17 with all warnings as errors. It runs them under the address and undefined behaviour
-# checks, of the C side: the library is built without them. Run build.sh first. Before that it compares the header with what the library
-# exports, and sees that mistakes with the header don't compile. Behind that it plays downloads with delays, in virtual time, runs the
-# tests of the Python package and of the Rust crate, and has the checkers of lint.sh look over the sources.
+# Tests the built library with its header and its bindings. Where clients/out has no library, that of the folder `release` is taken.
+#
+#   clients/try.sh [PART ..]       all parts, where none is named:
+#
+#   c         The header and what the library exports are the same, and mistakes with the header don't compile. The examples and the tests as
+#             C11 and as C++17, with all warnings as errors. They run under the address and undefined behaviour checks, of the C side: the
+#             library is built without them
+#   cpp       piecepick.hpp
+#   delays    downloads with delays, in virtual time
+#   python    the Python package
+#   fetch     the downloader
+#   rust      the Rust crate
+#   lint      the checkers of lint.sh look over the sources
 set -eu
 here=$(cd "$(dirname "$0")" && pwd)
 fail() { echo "try.sh: $1" >&2; exit 1; }
-[ -f "$here/out/libpiecepick.a" ] || fail "there is no clients/out/libpiecepick.a: run build.sh first"
+[ $# -gt 0 ] || set -- c cpp delays python fetch rust lint
+for part in "$@"; do
+    case $part in c | cpp | delays | python | fetch | rust | lint) ;; *) fail "there is no part $part: its first lines have all" ;; esac
+done
+[ -f "$here/out/libpiecepick.a" ] || "$here/take.sh"
 # But for comments the header is the one that the library was built with.
 bare() { gcc -w -fpreprocessed -dD -E -P "$1"; }
-[ "$(bare "$here/piecepick.h")" = "$(bare "$here/out/piecepick.h")" ] || fail "the library was built with another header"
-"$here/exports.py"
 work=$(mktemp -d)
 trap 'rm -rf "$work"' EXIT
 cd "$work"
@@ -43,42 +54,47 @@ wrong() {
     done < compilers
     echo "doesn't compile: $1"
 }
-# In C the constants of an enum are plain numbers, and clang 14 goes by that: it sees no other enum in them.
-every=$each each=${each%,*}
-wrong "a status that is compared with a kind" \
-    'return piecepick_next(picker, 0, 0, answer) == PIECEPICK_K_REQUEST;' 'return piecepick_next(picker, 0, 0, answer) == PIECEPICK_OK;'
-wrong "a kind that is compared with a reason" 'return !picker || answer->kind == PIECEPICK_R_STALE;' \
-    'return !picker || answer->reason == PIECEPICK_R_STALE;'
-each=$every
-wrong "a status that is ignored" 'piecepick_next(picker, 0, 0, answer); return 0;' 'return piecepick_next(picker, 0, 0, answer) != PIECEPICK_OK;'
-wrong "a picker that is copied" 'piecepick_picker copy = *picker; return !answer + !&copy;' 'piecepick_picker *same = picker; return !answer + !same;'
-wrong "a picker in place of a job" 'return piecepick_job_hash(picker) != PIECEPICK_OK || !answer;' \
-    'return piecepick_job_hash((piecepick_job *)answer) != PIECEPICK_OK || !picker;'
-wrong "a picker in place of its pointer" 'piecepick_close(picker); return !answer;' 'piecepick_close(&picker); return !answer;'
 
-for language in "gcc -std=c11" "g++ -std=c++17 -x c++"; do
-    checked "$language" -c "$here/example.c" -o example.o
-    g++ -fsanitize=address,undefined example.o "$here/out/libpiecepick.a" -o example
-    ./example try.torrent content
-    checked "$language" -c "$here/tests.c" -o tests.o
-    g++ -fsanitize=address,undefined -Wl,--wrap=malloc,--wrap=realloc tests.o "$here/out/libpiecepick.a" -lpthread -o tests
-    ./tests try.torrent content "$(cat infohash)" content
-    checked "$language" -c "$here/quick.c" -o quick.o
-    g++ -fsanitize=address,undefined quick.o "$here/out/libpiecepick.a" -o quick
-    ./quick
-    echo "$language: well"
-done
+# What the C compiler says of wrong uses of the header.
+mistakes() {
+    # In C the constants of an enum are plain numbers, and clang 14 goes by that: it sees no other enum in them.
+    every=$each each=${each%,*}
+    wrong "a status that is compared with a kind" \
+        'return piecepick_next(picker, 0, 0, answer) == PIECEPICK_K_REQUEST;' 'return piecepick_next(picker, 0, 0, answer) == PIECEPICK_OK;'
+    wrong "a kind that is compared with a reason" 'return !picker || answer->kind == PIECEPICK_R_STALE;' \
+        'return !picker || answer->reason == PIECEPICK_R_STALE;'
+    each=$every
+    wrong "a status that is ignored" 'piecepick_next(picker, 0, 0, answer); return 0;' 'return piecepick_next(picker, 0, 0, answer) != PIECEPICK_OK;'
+    wrong "a picker that is copied" 'piecepick_picker copy = *picker; return !answer + !&copy;' 'piecepick_picker *same = picker; return !answer + !same;'
+    wrong "a picker in place of a job" 'return piecepick_job_hash(picker) != PIECEPICK_OK || !answer;' \
+        'return piecepick_job_hash((piecepick_job *)answer) != PIECEPICK_OK || !picker;'
+    wrong "a picker in place of its pointer" 'piecepick_close(picker); return !answer;' 'piecepick_close(&picker); return !answer;'
+}
 
-# Depth by rate is of the headers alone, so the library isn't linked. The other languages read the same table in their own tests.
-for language in "gcc -std=c99 -pedantic" "gcc -std=c11 -pedantic" "g++ -std=c++17 -x c++"; do
-    checked "$language" -Wconversion -Wshadow "$here/depths.c" -o depths
-    ./depths "$here/depths.txt"
-done
-checked "g++ -std=c++17" -Wconversion -Wshadow "$here/depths.cpp" -o depths
-./depths "$here/depths.txt"
+c() {
+    [ "$(bare "$here/piecepick.h")" = "$(bare "$here/out/piecepick.h")" ] || fail "the library was built with another header"
+    "$here/exports.py"
+    mistakes
+    for language in "gcc -std=c11" "g++ -std=c++17 -x c++"; do
+        checked "$language" -c "$here/example.c" -o example.o
+        g++ -fsanitize=address,undefined example.o "$here/out/libpiecepick.a" -o example
+        ./example try.torrent content
+        checked "$language" -c "$here/tests.c" -o tests.o
+        g++ -fsanitize=address,undefined -Wl,--wrap=malloc,--wrap=realloc tests.o "$here/out/libpiecepick.a" -lpthread -o tests
+        ./tests try.torrent content "$(cat infohash)" content
+        checked "$language" -c "$here/quick.c" -o quick.o
+        g++ -fsanitize=address,undefined quick.o "$here/out/libpiecepick.a" -o quick
+        ./quick
+        echo "$language: well"
+    done
 
-checked "g++ -std=c++17" -Wconversion -Wshadow "$here/example.cpp" "$here/out/libpiecepick.a" -o example
-./example try.torrent content
+    # Depth by rate is of the headers alone, so the library isn't linked. The other languages read the same table in their own tests.
+    for language in "gcc -std=c99 -pedantic" "gcc -std=c11 -pedantic" "g++ -std=c++17 -x c++"; do
+        checked "$language" -Wconversion -Wshadow "$here/depths.c" -o depths
+        ./depths "$here/depths.txt"
+    done
+}
+
 # A picker and a job are moved and never copied, and an empty one throws.
 cat > moves.cpp <<'CPP'
 #include "piecepick.hpp"
@@ -196,27 +212,44 @@ int main()
     return well && !first.is_complete() && throws(PIECEPICK_E_NOT_HAD, [&] { first.read(0, room); }) ? 0 : 1;
 }
 CPP
-checked "g++ -std=c++17" moves.cpp "$here/out/libpiecepick.a" -o moves
-./moves || fail "piecepick.hpp doesn't do what its words say"
-if command -v clang++ > /dev/null; then
-    warned "clang++ -std=c++17" "$here/example.cpp" "$here/out/libpiecepick.a" -o example
+
+cpp() {
+    checked "g++ -std=c++17" -Wconversion -Wshadow "$here/depths.cpp" -o depths
+    ./depths "$here/depths.txt"
+
+    checked "g++ -std=c++17" -Wconversion -Wshadow "$here/example.cpp" "$here/out/libpiecepick.a" -o example
     ./example try.torrent content
-    warned "clang++ -std=c++17" moves.cpp "$here/out/libpiecepick.a" -o moves
-    ./moves || fail "piecepick.hpp by clang++ doesn't do what its words say"
-fi
-echo "piecepick.hpp: well"
+    checked "g++ -std=c++17" moves.cpp "$here/out/libpiecepick.a" -o moves
+    ./moves || fail "piecepick.hpp doesn't do what its words say"
+    if command -v clang++ > /dev/null; then
+        warned "clang++ -std=c++17" "$here/example.cpp" "$here/out/libpiecepick.a" -o example
+        ./example try.torrent content
+        warned "clang++ -std=c++17" moves.cpp "$here/out/libpiecepick.a" -o moves
+        ./moves || fail "piecepick.hpp by clang++ doesn't do what its words say"
+    fi
+    echo "piecepick.hpp: well"
+}
 
-cc -O2 -Wall -Wextra -Werror -I "$here/out" "$here/delays.c" "$here/out/libpiecepick.a" -o delays
-./delays
-cc -O2 -Wall -Wextra -Werror -I "$here/out" "$here/costs.c" "$here/out/libpiecepick.a" -o costs
+delays() {
+    cc -O2 -Wall -Wextra -Werror -I "$here/out" "$here/delays.c" "$here/out/libpiecepick.a" -o delays
+    ./delays
+    cc -O2 -Wall -Wextra -Werror -I "$here/out" "$here/costs.c" "$here/out/libpiecepick.a" -o costs
+}
 
-python3 -B -W error -m unittest discover -s "$here/python/tests"
-(cd "$here" && python3 -B -W error -m unittest discover -s fetch/tests -t .)
-if command -v cargo > /dev/null; then
-    export CARGO_TARGET_DIR="$work/target" PIECEPICK_LIB_DIR="$here/out"
-    cargo test --offline --quiet --manifest-path "$here/rust/Cargo.toml" || fail "the Rust crate"
-    cargo run --offline --quiet --manifest-path "$here/rust/Cargo.toml" --example loop || fail "the Rust example"
-else
-    echo "cargo isn't here: the Rust crate was passed over"
-fi
-"$here/lint.sh"
+python() { python3 -B -W error -m unittest discover -s "$here/python/tests"; }
+
+fetch() { (cd "$here" && python3 -B -W error -m unittest discover -s fetch/tests -t .); }
+
+rust() {
+    if command -v cargo > /dev/null; then
+        export CARGO_TARGET_DIR="$work/target" PIECEPICK_LIB_DIR="$here/out"
+        cargo test --offline --quiet --manifest-path "$here/rust/Cargo.toml" || fail "the Rust crate"
+        cargo run --offline --quiet --manifest-path "$here/rust/Cargo.toml" --example loop || fail "the Rust example"
+    else
+        echo "cargo isn't here: the Rust crate was passed over"
+    fi
+}
+
+lint() { "$here/lint.sh"; }
+
+for part in "$@"; do "$part"; done

@@ -1,15 +1,16 @@
 #!/usr/bin/env python3
 """Runs the built program with numbers that a hostile peer, or a hostile metainfo file, would choose.
 
-    tools/hostile.py
+    tools/hostile.py [--program FILE]
 
-prints a row for each: what was sent, its size, how the run ended, and the program's peak memory above that of a run with nothing sent.
-Memory has to stay within what was sent, one message of the longest kind, and what the journal and a worker's log keep of a message; of
-a metainfo file within so many bytes for each of its own.
+The program is crates/piecepick/out/piecepick, or FILE. It prints a row for each: what was sent, its size, how the run ended, and the
+program's peak memory above that of a run with nothing sent. Memory has to stay within what was sent, one message of the longest kind, and
+what the journal and a worker's log keep of a message; of a metainfo file within so many bytes for each of its own.
 """
 
 from __future__ import annotations
 
+import argparse
 import ctypes
 import os
 import struct
@@ -113,8 +114,10 @@ PR_SET_CHILD_SUBREAPER = 36
 class Play:
     """How the program ended: its status, the line that tells it, its peak memory in bytes, and whether its journal is sound."""
 
+    program = PROGRAM
+
     def __init__(self, words: list[str]) -> None:
-        run = subprocess.run(["sh", "-c", LAUNCH, "sh", PROGRAM, *words], capture_output=True, timeout=300)
+        run = subprocess.run(["sh", "-c", LAUNCH, "sh", self.program, *words], capture_output=True, timeout=300)
         pid, out = run.stdout.decode().split("\n", 1)
         _, code, usage = os.wait4(int(pid), 0)
         self.status = os.waitstatus_to_exitcode(code)
@@ -155,6 +158,9 @@ PER_BYTE = 3  # of a metainfo file: it itself, and what the torrent keeps and pr
 
 
 def main() -> int:
+    asked = argparse.ArgumentParser(description="Runs the program with what a hostile peer or metainfo file would have.")
+    asked.add_argument("--program", default=PROGRAM)
+    Play.program = asked.parse_args().program
     with open(RECORDED, "rb") as file:
         hello = file.read(HELLO)
     with open(TORRENT, "rb") as file:

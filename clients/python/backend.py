@@ -24,10 +24,12 @@ class UnsupportedOperation(Exception):
 
 
 def _library() -> bytes:
-    path = Path(os.environ.get("PIECEPICK_LIBRARY") or HERE.parent / "out" / LIBRARY)
-    if not path.exists():
-        raise FileNotFoundError(f"there is no {path}: clients/build.sh builds it, or PIECEPICK_LIBRARY names another one")
-    return path.read_bytes()
+    """The library that the environment names; else that of the checkout, built there or in its release."""
+    named = os.environ.get("PIECEPICK_LIBRARY")
+    for path in [Path(named)] if named else [HERE.parent / "out" / LIBRARY, HERE.parents[1] / "release/x86_64-linux/lib" / LIBRARY]:
+        if path.exists():
+            return path.read_bytes()
+    raise FileNotFoundError(f"there is no {named or LIBRARY}: clients/build.sh builds it, or PIECEPICK_LIBRARY names another one")
 
 
 def _tag(library: bytes) -> str:

@@ -1,13 +1,28 @@
-//! Links libpiecepick.a, which clients/build.sh makes.
+//! Links libpiecepick.a: the one that clients/build.sh makes, or else that of the folder `release`.
 
 use std::env;
-use std::path::PathBuf;
+use std::path::{Path, PathBuf};
+
+const ARCHIVE: &str = "libpiecepick.a";
+
+/// The folder that the environment names; else that of the checkout, where the library was built or in its release.
+fn folder() -> PathBuf {
+    if let Some(named) = env::var_os("PIECEPICK_LIB_DIR") {
+        return PathBuf::from(named);
+    }
+    let clients = Path::new(env!("CARGO_MANIFEST_DIR")).join("..");
+    let built = clients.join("out");
+    if built.join(ARCHIVE).exists() {
+        built
+    } else {
+        clients.join("../release/x86_64-linux/lib")
+    }
+}
 
 fn main() {
     println!("cargo:rerun-if-env-changed=PIECEPICK_LIB_DIR");
-    let named = env::var_os("PIECEPICK_LIB_DIR").map(PathBuf::from);
-    let folder = named.unwrap_or_else(|| PathBuf::from(env!("CARGO_MANIFEST_DIR")).join("../out"));
-    let archive = folder.join("libpiecepick.a");
+    let folder = folder();
+    let archive = folder.join(ARCHIVE);
     println!("cargo:rerun-if-changed={}", archive.display());
     assert!(
         archive.exists(),

@@ -1,0 +1,17 @@
+#!/bin/sh
+# Puts the library of the folder `release` into clients/out, where build.sh would put it. It takes no toolchain. The release has to
+# have the headers at hand: else the library is another one, and build.sh builds it.
+#
+#   clients/take.sh
+set -eu
+here=$(cd "$(dirname "$0")" && pwd)
+release=$here/../release/x86_64-linux
+fail() { echo "take.sh: $1; clients/build.sh proves and builds it" >&2; exit 1; }
+[ "$(uname -sm)" = "Linux x86_64" ] || fail "the release has no library for this machine"
+[ -f "$release/lib/libpiecepick.a" ] || fail "there is no release/x86_64-linux/lib/libpiecepick.a"
+for header in piecepick.h piecepick.hpp; do
+    cmp -s "$release/include/$header" "$here/$header" || fail "the release has another $header"
+done
+mkdir -p "$here/out"
+rm -f "$here"/out/libpiecepick.*
+cp -P "$release"/lib/libpiecepick.* "$release"/include/piecepick.h* "$here/out/"

@@ -1,0 +1,104 @@
+#!/usr/bin/env python3
+"""Runs all tests that need no prover, a line for each with its time.
+
+    ./test               these tests
+    ./test --proofs      these, and behind them `rt ci`, which proves and tests all crates from nothing
+
+The program is the one that ./piecepick runs. The library is that of clients/out, or else that of the folder `release`. A test whose compiler
+isn't on the machine is left out, and its line says so. The status is 0 where no test has failed.
+"""
+
+from __future__ import annotations
+
+import argparse
+import os
+import shutil
+import subprocess
+import sys
+import time
+from dataclasses import dataclass, field
+from pathlib import Path
+
+ROOT = Path(__file__).resolve().parent.parent
+PROGRAM = "PROGRAM"  # stands for the path of the program
+LONGEST = 900.0  # seconds of one test
+SHOWN = 40  # lines of the output of one that failed
+
+
+@dataclass(frozen=True)
+class Test:
+    """A command, and what has to be on the machine for it."""
+
+    name: str
+    words: tuple[str, ...]
+    needs: tuple[str, ...] = field(default=("python3",))
+
+
+TESTS = (
+    Test("the release", ("tools/release.py", "--verify")),
+    Test("stored runs", ("tools/stored.py", "--program", PROGRAM)),
+    Test("random scripts and files", ("tools/fuzz.py", "2000", "1", "--program", PROGRAM)),
+    Test("what hostile peers send", ("tools/hostile.py", "--program", PROGRAM)),
+    Test("C", ("clients/try.sh", "c"), ("python3", "gcc", "g++")),
+    Test("C++", ("clients/try.sh", "cpp"), ("python3", "gcc", "g++")),
+    Test("delays", ("clients/try.sh", "delays"), ("python3", "cc")),
+    Test("Python", ("clients/try.sh", "python")),
+    Test("random picks", ("tools/fuzz.py", "picks", "100000", "1", "--library", "--open")),
+    Test("the downloader", ("clients/try.sh", "fetch")),
+    Test("Rust", ("clients/try.sh", "rust"), ("python3", "cargo", "cc")),
+    Test("installed", ("clients/try_install.sh",), ("python3", "cc", "pkg-config", "readelf", "nm", "objcopy")),
+)
+
+
+def where() -> str | None:
+    """The path of the program, if there is one of these sources."""
+    found = subprocess.run([ROOT / "piecepick", "--where"], stdout=subprocess.PIPE, stderr=subprocess.PIPE, text=True)
+    return found.stdout.strip() if found.returncode == 0 else None
+
+
+def say(verdict: str, seconds: float | None, words: str) -> None:
+    """A line for one test."""
+    took = "" if seconds is None else f"{seconds:.1f} s"
+    print(f"{verdict:<8} {took:>8}  {words}", flush=True)
+
+
+def passes(test: Test, program: str | None) -> bool | None:
+    """Runs a test and prints its line; whether it passed, or None where it is left out."""
+    lacking = [tool for tool in test.needs if not shutil.which(tool)]
+    if lacking:
+        say("left out", None, f"{test.name}: there is no {' and no '.join(lacking)} here")
+        return None
+    if PROGRAM in test.words and program is None:
+        say("FAILED", None, f"{test.name}: of these sources there is no program; './piecepick --build' makes one")
+        return False
+    words = [program if word == PROGRAM and program else word for word in test.words]
+    begin = time.monotonic()
+    try:
+        done = subprocess.run(words, cwd=ROOT, stdin=subprocess.DEVNULL, stdout=subprocess.PIPE, stderr=subprocess.STDOUT, timeout=LONGEST)
+        is_well, lines = done.returncode == 0, done.stdout.decode(errors="replace").splitlines()
+    except subprocess.TimeoutExpired as late:
+        is_well, lines = False, [*(late.stdout or b"").decode(errors="replace").splitlines(), f"it took more than {LONGEST:.0f} s"]
+    say("well" if is_well else "FAILED", time.monotonic() - begin, f"{test.name}: {lines[-1] if lines else 'it says nothing'}")
+    if not is_well:
+        print("\n".join(f"    {line}" for line in lines[-SHOWN:]), flush=True)
+    return is_well
+
+
+def main() -> int:
+    words = argparse.ArgumentParser(prog="test", description="Runs all tests that need no prover.")
+    words.add_argument("--proofs", action="store_true", help="run `rt ci` behind them, which proves and tests all crates from nothing")
+    asked = words.parse_args()
+    begin = time.monotonic()
+    program = where()
+    verdicts = [passes(test, program) for test in TESTS]
+    failed, left_out = verdicts.count(False), verdicts.count(None)
+    passed = len(verdicts) - failed - left_out
+    print(f"{passed} passed, {failed} failed, {left_out} left out, in {time.monotonic() - begin:.0f} s", flush=True)
+    if failed:
+        return 1
+    return subprocess.run(["rt", "ci"], cwd=ROOT).returncode if asked.proofs else 0
+
+
+if __name__ == "__main__":
+    os.environ.setdefault("PYTHONDONTWRITEBYTECODE", "1")
+    sys.exit(main())
