@@ -5,31 +5,48 @@ usage: downloads.py [NAME ..]        (--list names them; all of them where none 
        downloads.py --picture FILE.svg
 
 It makes files and torrents in a directory of its own, and starts a small tracker, the seeders and the leechers. The content of each leecher is
-compared by SHA-1, file by file. The status is 0 where each download was well. A line says who downloaded, how long it took until all was
-there, the most memory, and the bytes that came
-beyond one copy, as the leecher tells its tracker.
+compared by SHA-1, file by file. The status is 0 where each download was well, and a player waited no longer than beside libtorrent.
 
-It needs Debian's packages aria2, transmission-daemon, qbittorrent-nox, rtorrent and opentracker, and `unshare` for a network of its own.
+A line says who downloaded, how long it took until all was there, the most memory, and the bytes that came beyond one copy, as the leecher tells
+its tracker. Beside a player it says the seconds until the player was at the end, and how long the player stood still.
+
+It needs Debian's packages aria2, transmission-daemon, qbittorrent-nox, rtorrent, opentracker and python3-libtorrent, and `unshare` for a network
+of its own.
 """
 
 from __future__ import annotations
 
+import contextlib
+import hashlib
+import http.client
 import json
 import signal
+import statistics
 import sys
 import tempfile
+import threading
 import time
 from collections.abc import Callable
-from dataclasses import dataclass
+from dataclasses import dataclass, field
 from pathlib import Path
+from typing import IO
 
-from others import NETWORK, START, Client, Content, Place, aria2, enter_network, fetch, opentracker, transmission
+from others import LOCAL, NETWORK, START, Client, Content, Place, aria2, enter_network, fetch, free_port, libtorrent, opentracker, transmission
 
 LONGEST = 150.0  # seconds of one download
 PIECE_LENGTH = 1 << 18
 MEGABYTE = 1000000
 LEECHERS = ("fetch", "aria2", "transmission")
 METERED = ("--seed-minutes", "10", "--meter")
+
+# The trial `player`.
+RATE = MEGABYTE  # bytes a second that the player takes, as a film of 8 Mbit/s has them
+FAST, SLOW = 1500, 125  # kilobytes a second of the seeders
+# libtorrent's seconds with deadlines, and whether all else comes from the front. In single runs 2 to 6 seconds were best, and 4 is their middle.
+PLAYERS = {"libtorrent": (4, False), "sequential": (4, True)}
+READ = 1 << 16  # bytes
+FRAME = 0.04  # seconds; what is late by less than a frame isn't seen
+TOLERANCE = 0.25  # seconds by which two waits may differ by chance
 
 
 @dataclass
@@ -42,6 +59,7 @@ class Outcome:
     megabytes: float
     twice: int | None  # bytes that came beyond one copy, where that is known
     more: str = ""
+    waited: float = 0.0  # seconds of a player
 
     def line(self, name: str) -> str:
         """The line that is printed."""
@@ -174,6 +192,86 @@ def mixed(place: Place, who: str) -> Outcome:
     return finish(place, [START[name](place, False) for name in (who, who, "aria2", "transmission", "qbittorrent")])
 
 
+@dataclass
+class Player:
+    """Takes a stream at the content's rate. A byte is due by its place in the stream, and later by all that was waited before."""
+
+    due: float  # when the first byte is
+    waits: list[float] = field(default_factory=list)  # the first one is the start-up
+    hashed: hashlib._Hash = field(default_factory=hashlib.sha1)
+
+    def play(self, stream: IO[bytes]) -> None:
+        """Reads to the end."""
+        while data := stream.read(READ):
+            self.hashed.update(data)
+            now = time.monotonic()
+            if now - self.due > FRAME or not self.waits:
+                self.waits.append(now - self.due)
+                self.due = now
+            self.due += len(data) / RATE
+            time.sleep(max(0.0, self.due - time.monotonic()))
+
+    def told(self) -> str:
+        """The waits, for the line of the trial."""
+        start, *stalls = self.waits or [0.0]
+        return f"start-up {start:.2f} s  stalls {sum(stalls):.2f} s in {len(stalls)}  longest {max(stalls, default=0.0):.2f} s"
+
+
+def open_stream(leecher: Client, port: int) -> IO[bytes]:
+    """The file of a downloader that serves, as soon as it does."""
+    while leecher.process.poll() is None:
+        connection = http.client.HTTPConnection(LOCAL, port)
+        with contextlib.suppress(ConnectionRefusedError):
+            connection.request("GET", "/1")
+            return connection.getresponse()
+        time.sleep(0.01)
+    raise RuntimeError("the downloader ended before it served")
+
+
+def start_player(place: Place, who: str) -> tuple[Client, IO[bytes]]:
+    """A leecher, and what a player reads of it."""
+    if who == "fetch":
+        port = free_port(LOCAL)
+        leecher = fetch(place, False, words=("--serve", str(port)))
+        return leecher, open_stream(leecher, port)
+    leecher = libtorrent(place, RATE, *PLAYERS[who])
+    assert leecher.process.stdout
+    return leecher, leecher.process.stdout
+
+
+def played(place: Place, who: str) -> Outcome:
+    """A player reads at the content's rate beside one quick seeder and three slow ones. The seconds are those until it is at the end."""
+    seeders = [aria2(place, True, rate) for rate in (FAST, SLOW, SLOW, SLOW)]
+    for seeder in seeders:
+        place.wait_ready(seeder)
+    leecher, stream = start_player(place, who)
+    ending = threading.Timer(LONGEST, leecher.process.kill)
+    ending.start()
+    player = Player(leecher.began)
+    try:
+        player.play(stream)
+    finally:
+        ending.cancel()
+    leecher.seconds = time.monotonic() - leecher.began
+    megabytes = leecher.megabytes()
+    leecher.stop()
+    for seeder in seeders:
+        seeder.process.kill()  # aria2 takes seconds to end in order
+    came, is_well = place.downloaded([leecher]), player.hashed.hexdigest() == place.content.right[""]
+    more = player.told() + ("  " + figures_of(leecher) if who == "fetch" else "")
+    return Outcome(who, is_well, [leecher.seconds], megabytes, (came or 0) - place.content.total, more, sum(player.waits))
+
+
+def waits_least(outcomes: list[Outcome]) -> bool:
+    """Whether our player waits at most as long as beside libtorrent, with whichever setting is the better one there. The medians count."""
+    def median(who: str) -> float:
+        return statistics.median(outcome.waited for outcome in outcomes if outcome.who == who)
+
+    waits = {who: median(who) for who in ("fetch", *PLAYERS)}
+    print("waits, the medians: " + "  ".join(f"{who} {seconds:.2f} s" for who, seconds in waits.items()), flush=True)
+    return waits["fetch"] <= min(waits[who] for who in PLAYERS) + TOLERANCE
+
+
 FOLDER = {f"{number % 7}/file {number}": 1 + number * number * 37 for number in range(200)} | {"large": 20 * MEGABYTE}
 ONE = ("fetch",)
 TRIALS: dict[str, tuple[Callable[[Place, str], Outcome], tuple[str, ...], dict[str, int], int]] = {  # who downloads; files; piece length
@@ -191,6 +289,7 @@ TRIALS: dict[str, tuple[Callable[[Place, str], Outcome], tuple[str, ...], dict[s
     "by http": (by_opentracker("http"), ONE, {"": 24 * MEGABYTE}, PIECE_LENGTH),
     "swarm": (swarm, LEECHERS, {"": 30 * MEGABYTE}, PIECE_LENGTH),
     "mixed": (mixed, ONE, {"": 30 * MEGABYTE}, PIECE_LENGTH),
+    "player": (played, ("fetch", *PLAYERS) * 3, {"": 24 * MEGABYTE}, PIECE_LENGTH),
     "large": (one_seeder("aria2"), LEECHERS, {"": 1 << 32}, 1 << 20),
 }
 
@@ -198,15 +297,14 @@ TRIALS: dict[str, tuple[Callable[[Place, str], Outcome], tuple[str, ...], dict[s
 def run(name: str) -> bool:
     """The downloads of one name, each with a line; whether all were well."""
     trial, leechers, lengths, piece_length = TRIALS[name]
-    is_well = True
+    outcomes = []
     with tempfile.TemporaryDirectory() as directory:
         content = Content(Path(directory), lengths, piece_length)
         content.make(name)
         for who in leechers:
-            outcome = run_one(trial, who, content)
-            print(outcome.line(name), flush=True)
-            is_well = is_well and outcome.is_well
-    return is_well
+            outcomes.append(run_one(trial, who, content))
+            print(outcomes[-1].line(name), flush=True)
+    return all(outcome.is_well for outcome in outcomes) and (trial is not played or waits_least(outcomes))
 
 
 def run_one(trial: Callable[[Place, str], Outcome], who: str, content: Content) -> Outcome:

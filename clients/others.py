@@ -29,6 +29,7 @@ HERE = Path(__file__).resolve().parent
 READY = 60.0  # seconds until a client answers
 CHUNK = 1 << 20
 NETWORK = "10.77.0."
+LOCAL = "127.0.0.1"
 INSIDE = "PIECEPICK_NETWORK"  # in the environment: the network is there
 SHORTEST = 5  # seconds between two announces of a client, for those that wait for the tracker to name others
 
@@ -318,6 +319,14 @@ def rtorrent(place: Place, seeds: bool, kilobytes: int = 0) -> Client:
     ]  # fmt: skip
     command = ["rtorrent", "-n", *(word for choice in chosen for word in ("-o", choice)), "-O", f"load.start={place.torrent}"]
     return place.start("rtorrent", command, host, port, room / "content")
+
+
+def libtorrent(place: Place, rate: int, seconds: int, is_sequential: bool) -> Client:
+    """libtorrent-rasterbar with deadlines for the next seconds of a player, who reads so many bytes a second at its output."""
+    (host, port), room = place.address(), place.room("libtorrent", False)
+    command = ["/usr/bin/python3", str(HERE / "player_libtorrent.py"), str(place.torrent), str(room), host, str(port), str(rate), str(seconds)]
+    command += ["--sequential"] if is_sequential else []
+    return place.start("libtorrent", command, host, port, room / "content", subprocess.PIPE)
 
 
 def opentracker(place: Place) -> int:

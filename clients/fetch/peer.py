@@ -14,6 +14,7 @@ from .rate import Rate
 from .wire import Inbound, Message, spell
 
 FIRST_DEPTH = 64
+FIRST_DEPTH_READING = 8  # while somebody reads, since a slow peer would keep what the reader waits for
 MOST_DEPTH = 500
 MOST_LATE = 2000  # requests that are remembered after they were taken back, since their blocks may come
 NO_WORKER = -1
@@ -88,6 +89,10 @@ class Peer:
         if head[:1] == b"-" and head[-1:] == b"-" and head[1:-1].isalnum():
             return head[1:-1].decode("ascii")
         return head.split(b"-")[0].decode("ascii") if head[:1].isalpha() and head.replace(b"-", b"").isalnum() else ""
+
+    def begin_shallow(self) -> None:
+        """The peer joins while somebody reads."""
+        self.by_rate = DepthByRate(milliseconds(self.began), depth=FIRST_DEPTH_READING, deepest=MOST_DEPTH)
 
     def say(self, message: Message, *numbers: int) -> None:
         """Puts a message behind what is to be sent."""

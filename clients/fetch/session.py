@@ -80,6 +80,9 @@ class Session:
         self.peers[worker] = peer
         self.content.owners[worker] = peer.address
         self.picker.join(worker)
+        if self.suspects.reads:
+            peer.begin_shallow()
+            self.picker.depth(worker, peer.depth)
         if peer.is_fast and self.content.had_count == self.layout.pieces:
             peer.say(Message.HAVE_ALL)
         elif peer.is_fast and self.content.had_count == 0:

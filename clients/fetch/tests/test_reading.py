@@ -8,7 +8,7 @@ from unittest import mock
 from piecepick import Picker
 
 from fetch.content import Verdict
-from fetch.peer import ALL_LEVELS, Peer
+from fetch.peer import ALL_LEVELS, FIRST_DEPTH, FIRST_DEPTH_READING, Peer
 from fetch.serving import LOOK, NEAREST, URGENT, Gate, Urgent, levels_before
 
 from .spoken import Speaking, message
@@ -131,6 +131,18 @@ class Reached(Reading):
         self.leave_reader()
         self.assertEqual(slow.reach, ALL_LEVELS)
         self.assertGreater(len(slow.asked), 1)
+
+    def test_first_depth(self) -> None:
+        """A peer that joins while somebody reads is asked for few blocks at first, and one that joins later for as many as else."""
+        self.read(0)
+        early = self.joined(1, None)
+        self.hear(early, message(UNCHOKE))
+        self.assertEqual(list(early.asked), [(piece, at * BLOCK) for piece in (0, 1) for at in range(4)])
+        self.assertEqual(self.picker.outstanding(early.worker), FIRST_DEPTH_READING)
+        self.leave_reader()
+        later = self.joined(2, None)
+        self.hear(later, message(UNCHOKE))
+        self.assertEqual(len(later.asked), FIRST_DEPTH)
 
     def test_taken_back(self) -> None:
         """What is urgent and in flight at a slow peer is cancelled there, and asked of others. It is kept where it comes all the same."""
