@@ -25,7 +25,7 @@ typed() (
 )
 if has mypy mypy --version; then
     typed clients -p piecepick -p fetch || bad "mypy, of the packages,"
-    typed clients bencode.py downloads.py exports.py others.py python/backend.py || bad "mypy, of the programs in clients,"
+    typed clients bencode.py downloads.py exports.py others.py player_libtorrent.py python/backend.py || bad "mypy, of the programs in clients,"
     typed clients/python/tests "$here"/python/tests/*.py || bad "mypy, of the package's tests,"
     typed tools "$root"/tools/*.py || bad "mypy, of tools,"
 fi
