@@ -16,34 +16,36 @@ import shutil
 import subprocess
 import sys
 import time
-from dataclasses import dataclass, field
+from dataclasses import dataclass
 from pathlib import Path
 
 ROOT = Path(__file__).resolve().parent.parent
 PROGRAM = "PROGRAM"  # stands for the path of the program
 LONGEST = 900.0  # seconds of one test
 SHOWN = 40  # lines of the output of one that failed
+LEFT_OUT = "passed over"  # what a test says of a part of it for which a tool is lacking
 
 
 @dataclass(frozen=True)
 class Test:
-    """A command, and what has to be on the machine for it."""
+    """A command, and what has to be on the machine for it. Of some the last line says what was found."""
 
     name: str
     words: tuple[str, ...]
-    needs: tuple[str, ...] = field(default=("python3",))
+    needs: tuple[str, ...] = ("python3",)
+    tells: bool = False
 
 
 TESTS = (
     Test("the release", ("tools/release.py", "--verify")),
-    Test("stored runs", ("tools/stored.py", "--program", PROGRAM)),
-    Test("random scripts and files", ("tools/fuzz.py", "2000", "1", "--program", PROGRAM)),
+    Test("stored runs", ("tools/stored.py", "--program", PROGRAM), tells=True),
+    Test("random scripts and files", ("tools/fuzz.py", "2000", "1", "--program", PROGRAM), tells=True),
     Test("what hostile peers send", ("tools/hostile.py", "--program", PROGRAM)),
     Test("C", ("clients/try.sh", "c"), ("python3", "gcc", "g++")),
     Test("C++", ("clients/try.sh", "cpp"), ("python3", "gcc", "g++")),
     Test("delays", ("clients/try.sh", "delays"), ("python3", "cc")),
     Test("Python", ("clients/try.sh", "python")),
-    Test("random picks", ("tools/fuzz.py", "picks", "100000", "1", "--library", "--open")),
+    Test("random picks", ("tools/fuzz.py", "picks", "100000", "1", "--library", "--open"), tells=True),
     Test("the downloader", ("clients/try.sh", "fetch")),
     Test("Rust", ("clients/try.sh", "rust"), ("python3", "cargo", "cc")),
     Test("installed", ("clients/try_install.sh",), ("python3", "cc", "pkg-config", "readelf", "nm", "objcopy")),
@@ -78,7 +80,10 @@ def passes(test: Test, program: str | None) -> bool | None:
         is_well, lines = done.returncode == 0, done.stdout.decode(errors="replace").splitlines()
     except subprocess.TimeoutExpired as late:
         is_well, lines = False, [*(late.stdout or b"").decode(errors="replace").splitlines(), f"it took more than {LONGEST:.0f} s"]
-    say("well" if is_well else "FAILED", time.monotonic() - begin, f"{test.name}: {lines[-1] if lines else 'it says nothing'}")
+    say("well" if is_well else "FAILED", time.monotonic() - begin, f"{test.name}: {lines[-1]}" if test.tells and lines else test.name)
+    for line in lines:
+        if LEFT_OUT in line:
+            say("left out", None, f"{test.name}: {line}")
     if not is_well:
         print("\n".join(f"    {line}" for line in lines[-SHOWN:]), flush=True)
     return is_well
