@@ -7,7 +7,8 @@
     hashing                     four pieces at once, where the library is faster at it than hashlib
     content, blame              what is had, with the picker beside it, and who sent what was wrong
     suspects                    who works alone, since a piece of several peers was wrong
-    wire, peer, session         messages as bytes, one connection, and what is said with peers
+    wire, extended              messages as bytes
+    peer, session               one connection, and what is said with peers
     uploads, choking, rate      what peers get, who gets it, and how fast it goes
     swarm, addresses            the loop of sockets, and where peers may be found
     announcing, tracker*        trackers, by HTTP and by UDP

@@ -47,7 +47,7 @@ class Content:
         self.blame = Blame()
         self.owners: dict[int, Sender] = {}  # of each worker the peer that has it, or had it last
         self.is_saved = True
-        self.has_lost = False  # a piece, since somebody looked
+        self.lost: list[int] = []  # pieces, since somebody looked
 
     def has(self, piece: int) -> bool:
         """Whether the piece is had."""
@@ -183,7 +183,8 @@ class Content:
         for file in self.layout.files_of(piece):
             self.missing[file.number] += 1
             self.storage.reopen(file)
-        self.is_saved, self.has_lost = False, True
+        self.is_saved = False
+        self.lost.append(piece)
 
     def names_a_sender(self, worker: int) -> bool:
         """Whether a block of a piece that isn't had is from this worker's peer, so that another peer can't have its number yet."""

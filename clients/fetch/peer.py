@@ -39,6 +39,8 @@ class Peer:
     peer_id: bytes = b""
     is_connected: bool = False
     is_fast: bool = False
+    is_extended: bool = False
+    dont_have: int = 0  # its number for the message that a piece is lost; 0 where it takes none
     unsent: bytearray = field(default_factory=bytearray)
     events: int = 0  # of the selector
 

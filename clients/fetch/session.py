@@ -11,11 +11,12 @@ from piecepick import Answer, InputFault, Kind, PickRule, Reason
 
 from .content import Content, Verdict
 from .deadlines import Line
+from .extended import DONT_HAVE, HELLO, read_dont_have, read_hello, spell_dont_have, spell_hello
 from .layout import BLOCK
 from .peer import ALL_LEVELS, NO_WORKER, Peer, milliseconds
 from .suspects import Suspects
 from .uploads import Uploads
-from .wire import Message, WireFault, block_of, numbers_of, spell, spell_bitfield
+from .wire import Message, WireFault, block_of, extended_of, numbers_of, spell, spell_bitfield
 
 SILENCE = 15.0  # seconds with no block, after which a silent peer's oldest requests are late
 SLOWEST = 60.0  # seconds after which a request is late though other blocks come, and after as many more it is taken back
@@ -69,6 +70,7 @@ class Session:
             Message.NOT_INTERESTED: self._not_interested, Message.HAVE: self._have, Message.BITFIELD: self._bitfield,
             Message.REQUEST: self._request, Message.PIECE: self._piece, Message.CANCEL: self._cancel, Message.HAVE_ALL: self._have_all,
             Message.HAVE_NONE: self._have_none, Message.REJECT: self._reject, Message.ALLOWED_FAST: self._allowed_fast,
+            Message.EXTENDED: self._extended,
         }  # fmt: skip
 
     # Peers come and go.
@@ -89,6 +91,8 @@ class Session:
             peer.say(Message.HAVE_NONE)
         elif self.content.had_count:
             peer.unsent += spell_bitfield(self.content.had)
+        if peer.is_extended:
+            peer.unsent += spell_hello()
 
     def part(self, peer: Peer) -> None:
         """The connection is gone."""
@@ -227,6 +231,24 @@ class Session:
     def _allowed_fast(self, peer: Peer, payload: memoryview) -> None:
         """The picker asks nothing of a peer that chokes us, so this is read alone."""
         numbers_of(Message.ALLOWED_FAST, payload)
+
+    def _extended(self, peer: Peer, payload: memoryview) -> None:
+        number, rest = extended_of(payload)
+        if number == HELLO:
+            peer.dont_have = read_hello(rest)
+        elif number == DONT_HAVE:
+            self._lack(peer, read_dont_have(rest))
+
+    def _lack(self, peer: Peer, piece: int) -> None:
+        """The peer has the piece no more, so what was asked of it there is free for others."""
+        answer = self.picker.lack(peer.worker, piece)
+        if peer.shows(piece):
+            peer.pieces[piece >> 3] &= ~(0x80 >> (piece & 7))
+            peer.piece_count -= 1
+        for block in [block for block in peer.asked if block[0] == piece]:
+            self.take_back(peer, block)
+        if not answer.interesting:
+            self._lose_interest(peer)
 
     # What is asked of the peer.
 
@@ -369,13 +391,21 @@ class Session:
             if verdict.is_had:
                 for peer in self.peers.values():
                     peer.say(Message.HAVE, verdict.piece)
-        if self.content.has_lost or any(not verdict.is_had for verdict in verdicts):
-            self.content.has_lost = False
+        lost, self.content.lost = self.content.lost, []
+        for piece in lost:
+            self._tell_lost(piece)
+        if lost or any(not verdict.is_had for verdict in verdicts):
             self.reconsider()
         elif verdicts and self.picker.has_wanted:
             for peer in self.peers.values():
                 self._lose_interest(peer)
         return verdicts
+
+    def _tell_lost(self, piece: int) -> None:
+        """We have the piece no more. Who doesn't take that message is rejected when it asks."""
+        for peer in self.peers.values():
+            if peer.dont_have:
+                peer.unsent += spell_dont_have(peer.dont_have, piece)
 
     def reconsider(self) -> None:
         """More may be wanted than before: tells the peers that have something of it."""

@@ -161,7 +161,7 @@ class Swarm:
             raise WireFault("there is no place for another peer")
         if peer.is_incoming:
             peer.unsent += Handshake(self.content.infohash, self.limits.peer_id).spell()
-        peer.peer_id, peer.is_fast = handshake.peer_id, handshake.is_fast
+        peer.peer_id, peer.is_fast, peer.is_extended = handshake.peer_id, handshake.is_fast, handshake.is_extended
         self.connections += 1
         self.session.join(peer, worker)
 

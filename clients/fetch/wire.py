@@ -1,4 +1,4 @@
-"""Messages between peers, as bytes (BEP 3, BEP 6). Nothing here knows of sockets or of the picker."""
+"""Messages between peers, as bytes (BEP 3, BEP 6, BEP 10). Nothing here knows of sockets or of the picker."""
 
 from __future__ import annotations
 
@@ -10,6 +10,7 @@ from enum import IntEnum
 PROTOCOL = b"\x13BitTorrent protocol"
 HANDSHAKE_LENGTH = 68
 FAST_BYTE, FAST_BIT = 7, 0x04  # of the reserved bytes (BEP 6)
+EXTENDED_BYTE, EXTENDED_BIT = 5, 0x10  # the same (BEP 10)
 KEEPALIVE = bytes(4)
 SHORTEST_LIMIT = 1 << 15  # bytes; a block message has 16 KiB and 9
 _HEAD = struct.Struct(">IB")
@@ -33,6 +34,7 @@ class Message(IntEnum):
     HAVE_NONE = 15
     REJECT = 16
     ALLOWED_FAST = 17
+    EXTENDED = 20
 
 
 # The numbers of 32 bits in each message that has nothing else.
@@ -61,6 +63,18 @@ def spell_block(piece: int, begin: int, block: bytes) -> bytes:
     return _HEAD.pack(9 + len(block), Message.PIECE) + _NUMBERS[2].pack(piece, begin) + block
 
 
+def spell_extended(number: int, payload: bytes) -> bytes:
+    """A message of the extension protocol, by its receiver's number for it."""
+    return _HEAD.pack(2 + len(payload), Message.EXTENDED) + bytes([number]) + payload
+
+
+def extended_of(payload: memoryview) -> tuple[int, memoryview]:
+    """Our number for a message of the extension protocol, and what it has."""
+    if not payload:
+        raise WireFault("an extended message has no number")
+    return payload[0], payload[1:]
+
+
 def numbers_of(message: Message, payload: memoryview) -> tuple[int, ...]:
     """The numbers of a message that has nothing else."""
     count = NUMBERS[message]
@@ -84,12 +98,15 @@ class Handshake:
     infohash: bytes
     peer_id: bytes
     is_fast: bool = True
+    is_extended: bool = True
 
     def spell(self) -> bytes:
         """Its bytes."""
         reserved = bytearray(8)
         if self.is_fast:
             reserved[FAST_BYTE] |= FAST_BIT
+        if self.is_extended:
+            reserved[EXTENDED_BYTE] |= EXTENDED_BIT
         return PROTOCOL + bytes(reserved) + self.infohash + self.peer_id
 
 
@@ -98,7 +115,7 @@ def read_handshake(data: bytes) -> Handshake:
     if data[: len(PROTOCOL)] != PROTOCOL:
         raise WireFault("no handshake of this protocol")
     reserved = data[20:28]
-    return Handshake(data[28:48], data[48:68], bool(reserved[FAST_BYTE] & FAST_BIT))
+    return Handshake(data[28:48], data[48:68], bool(reserved[FAST_BYTE] & FAST_BIT), bool(reserved[EXTENDED_BYTE] & EXTENDED_BIT))
 
 
 class Inbound:

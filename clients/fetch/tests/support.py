@@ -27,6 +27,7 @@ CONTENT = random.Random(2).randbytes(40 * PIECE + 12345)
 PIECES = 41
 CHOKE, UNCHOKE, INTERESTED, NOT_INTERESTED, HAVE, BITFIELD, REQUEST, BLOCK_MESSAGE, CANCEL = range(9)
 HAVE_ALL, HAVE_NONE, REJECT, ALLOWED_FAST = 14, 15, 16, 17
+EXTENDED = 20
 # The files of a torrent of many: an empty one, some inside one piece, and some over many.
 FILES: list[tuple[list[bytes], int]] = [
     ([b"a"], 100), ([b"empty"], 0), ([b"sub", b"b"], PIECE), ([b"sub", b"deep", b"c"], 5000), ([b"d"], 20 * PIECE),

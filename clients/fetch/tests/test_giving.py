@@ -7,14 +7,16 @@ import signal
 import time
 import unittest
 from pathlib import Path
-from typing import Any
+from typing import Any, cast
 
+from fetch.peer import Peer
 from fetch.uploads import Limit
+from fetch.wire import Inbound
 
 from .spoken import Speaking, message
 from .support import (
-    BITFIELD, BLOCK, BLOCK_MESSAGE, CANCEL, CHOKE, CONTENT, HAVE, HAVE_ALL, HAVE_NONE, INTERESTED, NOT_INTERESTED, PIECE, PIECES, REJECT,
-    REQUEST, UNCHOKE, Downloading, flags_of, single_torrent,
+    BITFIELD, BLOCK, BLOCK_MESSAGE, CANCEL, CHOKE, CONTENT, EXTENDED, HAVE, HAVE_ALL, HAVE_NONE, INTERESTED, NOT_INTERESTED, PIECE, PIECES,
+    REJECT, REQUEST, UNCHOKE, Downloading, flags_of, single_torrent,
 )  # fmt: skip
 from .trackers import HttpTracker
 
@@ -26,6 +28,13 @@ class Answers(Speaking):
 
     def test_shown(self) -> None:
         self.assertEqual(self.said(self.peer(True)), message(BITFIELD, data=flags_of(range(10))))
+
+    def test_extended(self) -> None:
+        """Who has the extension protocol is told which message we take, behind what we have (BEP 10)."""
+        peer = Peer(cast(Any, None), ("127.0.0.1", 1), True, Inbound(PIECES), self.session.now)
+        peer.is_extended = True
+        self.session.join(peer, 0)
+        self.assertTrue(self.said(peer).endswith(message(EXTENDED, data=b"\0d1:md11:lt_donthavei7eee")))
 
     def test_given(self) -> None:
         peer = self.peer(False)
@@ -101,8 +110,9 @@ class Lost(Speaking):
     """A piece that was there. Of the content the pieces 0 to 9 are."""
 
     def test_lost(self) -> None:
-        """A piece that can't be read any more is rejected, and comes again from who has it."""
+        """A piece that can't be read any more is rejected, and comes again from who has it. Who takes that message is told that it is lost."""
         peer = self.peer(True)
+        self.hear(peer, message(EXTENDED, data=b"\0d1:md11:lt_donthavei3eee"))
         self.session.uploads.unchoke(peer)
         self.download.parts.picker.set_levels(bytes(4 * (piece == 3) for piece in range(PIECES)))
         self.said(peer)
@@ -116,7 +126,7 @@ class Lost(Speaking):
         self.session.settle()
         self.session.ask_idle()
         requests = b"".join(message(REQUEST, 3, begin, BLOCK) for begin in range(0, PIECE, BLOCK))
-        self.assertEqual(self.said(peer), message(INTERESTED) + requests)
+        self.assertEqual(self.said(peer), message(EXTENDED, data=b"\x03\0\0\0\x03") + message(INTERESTED) + requests)
         for begin in range(0, PIECE, BLOCK):
             self.hear(peer, message(BLOCK_MESSAGE, 3, begin, data=CONTENT[3 * PIECE + begin :][:BLOCK]))
         end = time.monotonic() + 10

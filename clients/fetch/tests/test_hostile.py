@@ -23,12 +23,14 @@ from fetch.peer import Peer
 from fetch.wire import Inbound, WireFault
 
 from .support import (
-    BITFIELD, BLOCK, BLOCK_MESSAGE, CANCEL, CONTENT, HAVE, HAVE_ALL, PIECE, PIECES, REJECT, REQUEST, UNCHOKE, Downloading, flags_of,
-    single_torrent,
+    BITFIELD, BLOCK, BLOCK_MESSAGE, CANCEL, CONTENT, EXTENDED, HAVE, HAVE_ALL, PIECE, PIECES, REJECT, REQUEST, UNCHOKE, Downloading,
+    flags_of, single_torrent,
 )  # fmt: skip
 
 SESSIONS = int(os.environ.get("FETCH_SESSIONS", "2000"))
 NUMBERS = [0, 1, PIECES - 1, PIECES, BLOCK, 2 * BLOCK, PIECE, 0x7FFFFFFF, 0xFFFFFFFF]
+# Of the extension protocol.
+HELLOS = [b"\0d1:md11:lt_donthavei3eee", b"\0d1:md11:lt_donthavei-1eee", b"\0d1:mlee", b"\0" + 40 * b"d1:m", b"\0i1e", b"\x63", b""]
 
 
 def message(kind: int, payload: bytes = b"") -> bytes:
@@ -53,7 +55,7 @@ class Nonsense:
     def part(self, asked: list[tuple[int, int]]) -> bytes:
         """Some bytes: a right message, one that is nearly right, or any; `asked` is what we ask of the peer."""
         chance = self.chance
-        kind = chance.choice([0, 1, 1, 2, 3, HAVE, BITFIELD, REQUEST, BLOCK_MESSAGE, CANCEL, 9, 13, HAVE_ALL, 15, REJECT, 17, 20, 255])
+        kind = chance.choice([0, 1, 1, 2, 3, HAVE, BITFIELD, REQUEST, BLOCK_MESSAGE, CANCEL, 9, 13, HAVE_ALL, 15, REJECT, 17, EXTENDED, 255])
         if asked and chance.random() < 0.5:
             return self.answer(asked)
         if chance.random() < 0.1:
@@ -62,6 +64,8 @@ class Nonsense:
         payload = self.numbers(count)
         if kind == BITFIELD:
             payload = flags_of(range(chance.randrange(PIECES + 1))) if chance.random() < 0.8 else chance.randbytes(chance.randrange(9))
+        if kind == EXTENDED:
+            payload = chance.choice([b"\x07" + self.numbers(1), *HELLOS])
         if kind == BLOCK_MESSAGE:
             payload += bytes(chance.choice([0, 1, BLOCK - 1, BLOCK, BLOCK + 1]))
         if chance.random() < 0.05:

@@ -6,10 +6,12 @@ import unittest
 
 from fetch.peer import FIRST_DEPTH, Peer, milliseconds
 from fetch.session import MOST_TIMEOUTS, REJECT_REST, REST, SILENCE
+from fetch.wire import WireFault
 
 from .spoken import Speaking, message
 from .support import (
-    BITFIELD, BLOCK, BLOCK_MESSAGE, CANCEL, CHOKE, CONTENT, HAVE, HAVE_ALL, INTERESTED, PIECE, PIECES, REJECT, REQUEST, UNCHOKE, flags_of,
+    BITFIELD, BLOCK, BLOCK_MESSAGE, CANCEL, CHOKE, CONTENT, EXTENDED, HAVE, HAVE_ALL, INTERESTED, NOT_INTERESTED, PIECE, PIECES, REJECT,
+    REQUEST, UNCHOKE, flags_of,
 )  # fmt: skip
 
 
@@ -104,6 +106,30 @@ class Asked(Speaking):
         self.session.now += REJECT_REST
         self.session.ask_idle()
         self.assertEqual(self.download.parts.picker.outstanding(peer.worker), FIRST_DEPTH)
+
+    def test_lack(self) -> None:
+        """A peer that has a piece no more is asked for nothing of it, with no cancel, and another one is (BEP 54)."""
+        first, second = self.joined(), self.joined(2)
+        piece, _ = next(iter(first.asked))
+        said = self.hear(first, message(EXTENDED, data=b"\x07" + piece.to_bytes(4, "big")))
+        self.assertFalse(first.shows(piece))
+        self.assertEqual((first.piece_count, len(first.asked)), (PIECES - 1, FIRST_DEPTH))
+        for begin in range(0, PIECE, BLOCK):
+            self.assertNotIn(message(CANCEL, piece, begin, BLOCK), said)
+            self.assertNotIn((piece, begin), first.asked)
+        self.session.picker.depth(second.worker, 4 * PIECES)
+        self.session.ask(second)
+        self.assertLess({(piece, begin) for begin in range(0, PIECE, BLOCK)}, second.asked.keys())
+
+    def test_lacks_all(self) -> None:
+        """Whose only wanted piece is gone has nothing for us. A piece that is none ends the connection."""
+        peer = self.peer(False)
+        self.hear(peer, message(HAVE, 3))
+        self.assertEqual(self.hear(peer, message(EXTENDED, data=b"\x07\0\0\0\x03")), message(NOT_INTERESTED))
+        self.assertEqual(self.hear(peer, message(EXTENDED, data=b"\x07\0\0\0\x03") + message(EXTENDED, data=b"\x09what")), b"")
+        for wrong in (b"", b"\x07\0\0\0\x29", b"\x07\0\0\0", b"\0i7e"):
+            with self.subTest(wrong), self.assertRaises(WireFault):
+                self.hear(peer, message(EXTENDED, data=wrong))
 
     def test_choke(self) -> None:
         """All that was asked is free when a peer chokes us; a block that was under way is kept."""
