@@ -8,8 +8,9 @@ set -eu
 export LC_ALL=C
 unset TAR_OPTIONS GZIP
 here=$(cd "$(dirname "$0")" && pwd)
+out=${PIECEPICK_OUT:-$here/out}
 version=$("$here/install.sh" --version)
-case $(readelf -h "$here/out/libpiecepick.so" | sed -n 's/.*Machine: *//p') in
+case $(readelf -h "$out/libpiecepick.so" | sed -n 's/.*Machine: *//p') in
 *X86-64) machine=x86_64 ;;
 AArch64) machine=aarch64 ;;
 *) echo "dist.sh: clients/out/libpiecepick.so is for no known processor" >&2; exit 1 ;;
@@ -25,7 +26,7 @@ done
 tar --create --format=ustar --sort=name --owner=0 --group=0 --numeric-owner --mode=u=rwX,go=rX --mtime=@946684800 \
     --directory="$work" --file="$work/$name.tar" "$name"
 gzip -n -9 "$work/$name.tar"
-mv "$work/$name.tar.gz" "$here/out/"
-cd "$here/out"
+mv "$work/$name.tar.gz" "$out/"
+cd "$out"
 ls -l "$name.tar.gz"
 sha256sum "$name.tar.gz"

@@ -10,6 +10,7 @@
 set -eu
 export LC_ALL=C
 here=$(cd "$(dirname "$0")" && pwd)
+out=${PIECEPICK_OUT:-$here/out}
 fail() { echo "install.sh: $1" >&2; exit 1; }
 # A folder with one slash before each part and none at its end.
 plain() { printf '%s/\n' "$1" | sed 's,//*,/,g; s,/$,,'; }
@@ -25,9 +26,9 @@ lib=${DESTDIR:-}$libdir
 
 # What the built header says; before it has a version, the interface's number stands for it.
 numbers() {
-    [ -f "$here/out/piecepick.h" ] || "$here/take.sh" || fail "clients/out has no header"
-    abi=$(sed -n 's/^#define PIECEPICK_ABI \([0-9][0-9]*\)u$/\1/p' "$here/out/piecepick.h")
-    version=$(sed -n 's/^#define PIECEPICK_VERSION "\([^"]*\)"$/\1/p' "$here/out/piecepick.h")
+    [ -f "$out/piecepick.h" ] || "$here/take.sh" || fail "clients/out has no header"
+    abi=$(sed -n 's/^#define PIECEPICK_ABI \([0-9][0-9]*\)u$/\1/p' "$out/piecepick.h")
+    version=$(sed -n 's/^#define PIECEPICK_VERSION "\([^"]*\)"$/\1/p' "$out/piecepick.h")
     [ -n "$abi" ] || fail "clients/out/piecepick.h has no line '#define PIECEPICK_ABI Nu'"
     version=${version:-$abi.0.0}
     # An interface's programs find their library by the first number of the version.
@@ -52,7 +53,7 @@ s|@soname@|libpiecepick.so.$abi|g; s|@abi@|$abi|; s|@version@|$version|" "$1"; }
 put() {
     numbers
     for file in piecepick.h piecepick.hpp libpiecepick.a "libpiecepick.so.$abi"; do
-        [ -f "$here/out/$file" ] || fail "clients/out has no $file: run clients/build.sh first"
+        [ -f "$out/$file" ] || fail "clients/out has no $file: run clients/build.sh first"
     done
     above=$(up)
     pc_prefix=$prefix pc_libdir=$libdir from_lib=$prefix/include
@@ -64,10 +65,10 @@ put() {
         pc_prefix="\${pcfiledir}/../$above"
     fi
     install -d "$include" "$lib/pkgconfig" "$lib/cmake/piecepick"
-    install -m 644 "$here/out/piecepick.h" "$include/piecepick.h"
-    install -m 644 "$here/out/piecepick.hpp" "$include/piecepick.hpp"
-    install -m 644 "$here/out/libpiecepick.a" "$lib/libpiecepick.a"
-    install -m 755 "$here/out/libpiecepick.so.$abi" "$lib/libpiecepick.so.$abi"
+    install -m 644 "$out/piecepick.h" "$include/piecepick.h"
+    install -m 644 "$out/piecepick.hpp" "$include/piecepick.hpp"
+    install -m 644 "$out/libpiecepick.a" "$lib/libpiecepick.a"
+    install -m 755 "$out/libpiecepick.so.$abi" "$lib/libpiecepick.so.$abi"
     ln -sf "libpiecepick.so.$abi" "$lib/libpiecepick.so"
     for file in pkgconfig/piecepick.pc cmake/piecepick/piecepick-config.cmake cmake/piecepick/piecepick-config-version.cmake; do
         name=${file##*/}

@@ -5,10 +5,10 @@
 #   clients/take.sh
 set -eu
 here=$(cd "$(dirname "$0")" && pwd)
-release=$here/../release/x86_64-linux
+release=$here/../release/$(uname -m)-linux
 fail() { echo "take.sh: $1; clients/build.sh proves and builds it" >&2; exit 1; }
-[ "$(uname -sm)" = "Linux x86_64" ] || fail "the release has no library for this machine"
-[ -f "$release/lib/libpiecepick.a" ] || fail "there is no release/x86_64-linux/lib/libpiecepick.a"
+[ "$(uname -s)" = Linux ] || fail "the release has libraries for Linux alone"
+[ -f "$release/lib/libpiecepick.a" ] || fail "there is no ${release#"$here/../"}/lib/libpiecepick.a"
 for header in piecepick.h piecepick.hpp; do
     cmp -s "$release/include/$header" "$here/$header" || fail "the release has another $header"
 done

@@ -5,9 +5,9 @@
     tools/release.py --check     the same, and what is proved and built from its sources is the same bit for bit
     tools/release.py --make      proves and builds all, and writes the folder anew
 
-The folder has the program, and the library with headers and what pkg-config and CMake read. It has both packed too, and the Python wheel.
-MANIFEST says of which sources these are (tools/sources.sh), by which toolchain, and the SHA-256 of each file. `sha256sum -c MANIFEST`
-takes it. The status is 1 where something differs, and each file that does is named.
+The folder has the program for x86-64, and the library for x86-64 and aarch64, with headers and what pkg-config and CMake read. It has the
+libraries packed too, and the Python wheels. MANIFEST says of which sources these are (tools/sources.sh), by which toolchain, and the SHA-256
+of each file. `sha256sum -c MANIFEST` takes it. The status is 1 where something differs, and each file that does is named.
 """
 
 from __future__ import annotations
@@ -23,7 +23,8 @@ from pathlib import Path
 
 ROOT = Path(__file__).resolve().parent.parent
 RELEASE = ROOT / "release"
-MACHINE = "x86_64-linux"
+MACHINE = "x86_64-linux"  # of the program
+PROCESSORS = ("x86_64", "aarch64")  # of the library
 LEVEL = "x86-64-v2"  # of the processor: what any machine of the last ten years has
 MANIFEST = "MANIFEST"
 KINDS = ("program", "library")  # of sources
@@ -57,20 +58,19 @@ def build_program(stage: Path) -> None:
     shutil.copy(folder / "out/piecepick", stage / "bin/piecepick")
 
 
-def build_library(stage: Path) -> Path:
-    """The library as it is installed. Gives the path of the packed one, whose folder is what is put below `stage`."""
-    run(ROOT / "clients/build.sh", PIECEPICK_FLAGS="")
-    run(ROOT / "clients/dist.sh")
-    version = run(ROOT / "clients/install.sh", "--version").strip()
-    packed = ROOT / "clients/out" / f"piecepick-{version}-{MACHINE}.tar.gz"
+def build_library(folder: Path, processor: str) -> None:
+    """The library for a processor as it is installed, the same packed, and the Python package with the library in it."""
+    out = ROOT / "clients/out" if processor == PROCESSORS[0] else ROOT / "clients/out" / processor
+    run(ROOT / "clients/build.sh", processor, PIECEPICK_FLAGS="")
+    run(ROOT / "clients/dist.sh", PIECEPICK_OUT=str(out))
+    version = run(ROOT / "clients/install.sh", "--version", PIECEPICK_OUT=str(out)).strip()
+    packed = out / f"piecepick-{version}-{processor}-linux.tar.gz"
+    stage = folder / f"{processor}-linux"
+    stage.mkdir(exist_ok=True)
     run("tar", "--extract", f"--file={packed}", f"--directory={stage}", "--strip-components=1")
-    return packed
-
-
-def build_wheel(folder: Path) -> None:
-    """The Python package, with the library in it."""
+    shutil.copy(packed, folder)
     code = f"import backend; backend.build_wheel({str(folder)!r})"
-    run(sys.executable, "-B", "-c", code, folder=ROOT / "clients/python", PIECEPICK_LIBRARY="")
+    run(sys.executable, "-B", "-c", code, folder=ROOT / "clients/python", PIECEPICK_LIBRARY=str(out / "libpiecepick.so"))
 
 
 def build(folder: Path) -> None:
@@ -80,8 +80,8 @@ def build(folder: Path) -> None:
     stage = folder / MACHINE
     stage.mkdir()
     build_program(stage)
-    shutil.copy(build_library(stage), folder)
-    build_wheel(folder)
+    for processor in PROCESSORS:
+        build_library(folder, processor)
     lines = [f"# {head}" for head in heads] + [f"{digest}  {name}" for name, digest in digests(folder).items()]
     (folder / MANIFEST).write_text("\n".join(lines) + "\n", encoding="utf-8")
 

@@ -10,7 +10,7 @@ case $#${1:-} in
 1program) set -- ;;
 1library)
     set -- clients/piecepick.h clients/piecepick.hpp clients/piecepick.map clients/piecepick.pc.in clients/cmake \
-        clients/build.sh clients/install.sh clients/dist.sh clients/python/backend.py clients/python/pyproject.toml clients/python/README.md \
+        clients/heap.c clients/build.sh clients/install.sh clients/dist.sh clients/python/backend.py clients/python/pyproject.toml clients/python/README.md \
         clients/python/piecepick
     ;;
 *) echo "usage: tools/sources.sh program|library" >&2; exit 2 ;;

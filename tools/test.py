@@ -48,6 +48,7 @@ TESTS = (
     Test("random picks", ("tools/fuzz.py", "picks", "100000", "1", "--library", "--open"), tells=True),
     Test("the downloader", ("clients/try.sh", "fetch")),
     Test("Rust", ("clients/try.sh", "rust"), ("python3", "cargo", "cc")),
+    Test("aarch64, emulated", ("clients/try_aarch64.sh",), ("python3", "aarch64-linux-gnu-gcc", "aarch64-linux-gnu-g++", "qemu-aarch64")),
     Test("installed", ("clients/try_install.sh",), ("python3", "cc", "pkg-config", "readelf", "nm", "objcopy")),
 )
 

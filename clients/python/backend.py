@@ -8,6 +8,7 @@ from __future__ import annotations
 import base64
 import hashlib
 import os
+import platform
 import tomllib
 import zipfile
 from pathlib import Path
@@ -26,7 +27,7 @@ class UnsupportedOperation(Exception):
 def _library() -> bytes:
     """The library that the environment names; else that of the checkout, built there or in its release."""
     named = os.environ.get("PIECEPICK_LIBRARY")
-    for path in [Path(named)] if named else [HERE.parent / "out" / LIBRARY, HERE.parents[1] / "release/x86_64-linux/lib" / LIBRARY]:
+    for path in [Path(named)] if named else [HERE.parent / "out" / LIBRARY, HERE.parents[1] / f"release/{platform.machine()}-linux/lib" / LIBRARY]:
         if path.exists():
             return path.read_bytes()
     raise FileNotFoundError(f"there is no {named or LIBRARY}: clients/build.sh builds it, or PIECEPICK_LIBRARY names another one")

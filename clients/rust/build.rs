@@ -15,7 +15,8 @@ fn folder() -> PathBuf {
     if built.join(ARCHIVE).exists() {
         built
     } else {
-        clients.join("../release/x86_64-linux/lib")
+        let processor = env::var("CARGO_CFG_TARGET_ARCH").unwrap_or_default();
+        clients.join(format!("../release/{processor}-linux/lib"))
     }
 }
 

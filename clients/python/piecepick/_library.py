@@ -4,12 +4,13 @@ from __future__ import annotations
 
 import ctypes
 import os
+import platform
 from pathlib import Path
 
 from . import _native
 
 NAME = "libpiecepick.so"
-RELEASE = "release/x86_64-linux/lib"  # in the checkout
+RELEASE = f"release/{platform.machine()}-linux/lib"  # in the checkout
 ADVICE = "clients/build.sh builds it, and the environment variable PIECEPICK_LIBRARY may name another one"
 
 
