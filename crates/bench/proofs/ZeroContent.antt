@@ -11,7 +11,7 @@ use Rattle.bt_history.specs.declared.event.Action.{Action}
 use Rattle.bt_history.specs.declared.event.Action.TheVariants.{Arrived}
 use Rattle.bt_history.specs.declared.event.Event.{Event}
 use Rattle.bt_history.specs.Setting.{Setting}
-use Rattle.bt_history.specs.History.{History, bytes_for, failed, stored, stores}
+use Rattle.bt_history.specs.History.{History, bytes_for, freed, stored, stores}
 use Rattle.bt_history.specs.Legal.{IsLegal}
 use Rattle.bt_history.specs.Pieces.{content, content_of_block, full, held, joined_below, kept}
 use Rattle.bt_history.proofs.Below.{all_at}
@@ -35,9 +35,9 @@ stored_zeros e b bytes brings is = by_reply (stores e.reply) e.action brings is 
 kept_zeros : (h : History) (b : Block) (bytes : List ℕ) → AllZeros h → kept h b ≡ Some bytes → bytes ≡ zeros (length bytes)
 unfolding kept
 kept_zeros [] b bytes all is = absurd (cc is)
-kept_zeros (e ∷ h) b bytes all is = by_entry (λ older. kept_zeros h b bytes all.1 older) (failed e b.piece) (stored e b) refl is where
-  by_entry : (kept h b ≡ Some bytes → bytes ≡ zeros (length bytes)) → (fails : Bool) (o : Option (List ℕ)) → stored e b ≡ o
-      → (if fails then None else if is_some o then o else kept h b) ≡ Some bytes → bytes ≡ zeros (length bytes)
+kept_zeros (e ∷ h) b bytes all is = by_entry (λ older. kept_zeros h b bytes all.1 older) (freed e b) (stored e b) refl is where
+  by_entry : (kept h b ≡ Some bytes → bytes ≡ zeros (length bytes)) → (frees : Bool) (o : Option (List ℕ)) → stored e b ≡ o
+      → (if frees then None else if is_some o then o else kept h b) ≡ Some bytes → bytes ≡ zeros (length bytes)
   by_entry before true o here is = absurd (cc is)
   by_entry before false None here is = before is
   by_entry before false (Some x) here is = stored_zeros e b bytes all.0 (here ∙ is)
