@@ -68,6 +68,12 @@ def build_library(folder: Path, processor: str) -> None:
     stage = folder / f"{processor}-linux"
     stage.mkdir(exist_ok=True)
     run("tar", "--extract", f"--file={packed}", f"--directory={stage}", "--strip-components=1")
+    for path in stage.rglob("*"):
+        if path.is_symlink():
+            # `rt ci` takes no links in the repository.
+            target = path.resolve()
+            path.unlink()
+            shutil.copy(target, path)
     shutil.copy(packed, folder)
     code = f"import backend; backend.build_wheel({str(folder)!r})"
     run(sys.executable, "-B", "-c", code, folder=ROOT / "clients/python", PIECEPICK_LIBRARY=str(out / "libpiecepick.so"))
@@ -87,7 +93,7 @@ def build(folder: Path) -> None:
 
 
 def digests(folder: Path) -> dict[str, str]:
-    """The SHA-256 of each file of the folder but for MANIFEST, by its name. A link counts as the file that it leads to."""
+    """The SHA-256 of each file of the folder but for MANIFEST, by its name."""
     names = sorted(str(path.relative_to(folder)) for path in folder.rglob("*") if path.is_file() and path.name != MANIFEST)
     return {name: hashlib.sha256((folder / name).read_bytes()).hexdigest() for name in names}
 
@@ -141,8 +147,9 @@ def make() -> bool:
     """Writes the release anew."""
     with tempfile.TemporaryDirectory() as folder:
         build(Path(folder))
+        Path(folder).chmod(0o755)
         shutil.rmtree(RELEASE, ignore_errors=True)
-        shutil.copytree(folder, RELEASE, symlinks=True)
+        shutil.copytree(folder, RELEASE)
     return verify()
 
 
