@@ -42,6 +42,7 @@ fn restored(restored: Restored) -> Result<Reply, Fault>
 
 impl Held {
     /// Makes a call of the worker, where there is one.
+    #[inline(always)]
     pub fn call(&mut self, alloc: Global, worker: u32, told: Told<'_>) -> Result<Reply, Fault>
         ensures same { StaysItself self.old self.new }
         ensures makes { Makes self.old (state self.new) worker (action_told told.entry) result }
@@ -53,6 +54,7 @@ impl Held {
     }
 
     /// Makes a call of the worker that names the piece, where there are both.
+    #[inline(always)]
     pub fn call_at(
         &mut self,
         alloc: Global,

@@ -145,6 +145,7 @@ impl Engine {
     }
 
     /// Answers what a worker tells of its peer. Without memory, nothing changes, nor does a journal by what frees blocks with no check.
+    #[inline(always)]
     pub fn tell(&mut self, alloc: Global, worker: u32, told: Told<'_>) -> Result<Reply, Untold>
         requires { worker < (state_of self.old).setting.workers }
         ensures ok { IfOk result (λ reply. Gains (state_of self.old) (state_of self.new) (telling worker told.entry reply)) }

@@ -11,11 +11,11 @@ ghost use Rattle.bt_history.specs.Pieces.{asker_count, endgame, had_count, held,
 ghost use Rattle.bt_history.specs.Next.{continues, doubles, is_rarest, is_strict, next_answer, rises, starts, usable};
 ghost use Rattle.bt_tables.specs.Orders.{at};
 ghost use Rattle.bt_tables.specs.Risings.{Rises};
-ghost use Rattle.bt_picker.specs.Search.{FindsLeast, FindsListed, FindsRarest, Finds, FindsOf, IsLevel, IsPickedBy, IsRuling, LacksNone};
+ghost use Rattle.bt_picker.specs.Search.{FindsLeast, FindsListed, FindsRarest, Finds, FindsOf, IsChoice, IsLevel, IsPickedBy, IsPickedChoice, IsRuling, LacksNone};
 ghost use Rattle.bt_picker.specs.Search.{MayAsk, NoneAbove, NoneAt, NoneBeforeIn, goes_on, lesser_of, order_of, is_left, serves_at, resumes_at, resuming_order};
 
 use crate::position::Position;
-use crate::ruling::Ruling;
+use crate::ruling::{Choice, Rule, Ruling};
 use bt_history::{MOST_LEVEL, Reply, USUAL_LEVEL};
 use bt_meta::Block;
 use bt_tables::{GROUPS, SPAN, Stage, first_group, group_number};
@@ -90,7 +90,7 @@ impl<'a> Position<'a> {
     }
 
     /// The open piece goes on with its first block that is lacking and that nobody is asked for.
-    fn going_on(&self, worker: u32, level: u8, word: u64, piece: u32) -> Option<Ruling>
+    fn going_on(&self, worker: u32, level: u8, word: u64, piece: u32) -> Option<Choice>
         requires worker { worker < self.now.setting.workers }
         requires level { IsLevel level }
         requires above { NoneAbove self.now.setting self.now.history worker level }
@@ -102,19 +102,22 @@ impl<'a> Position<'a> {
             (resuming_order self.now.setting self.now.history) 0 (piece_count self.now.setting.torrent) (Some piece) }
         requires leads { (is_strict self.now.setting self.now.history
             || is_rarest self.now.setting self.now.history worker piece) ≡ true }
-        ensures some { IfSome result (IsRuling self.now.setting self.now.history worker (next_answer self.now.setting self.now.history worker)) }
-        ensures picked { IfSome result (IsPickedBy self.now.setting self.now.history worker word) }
+        ensures some { IfSome result (IsChoice self.now.setting self.now.history worker (next_answer self.now.setting self.now.history worker)) }
+        ensures picked { IfSome result (IsPickedChoice self.now.setting self.now.history worker word) }
         ensures none { IfNone result (NoneAt self.now.setting self.now.history worker level) }
     {
         self.attest();
         match self.left_in(worker, piece) {
-            Some(block) => Some(Ruling::Continuing(block)),
+            Some(block) => Some(Choice {
+                rule: Rule::Continuing,
+                block,
+            }),
             None => None,
         }
     }
 
     /// The open piece goes on, or a candidate of the level begins that fewer peers show.
-    fn leading(&self, worker: u32, level: u8, word: u64, piece: u32) -> Option<Ruling>
+    fn leading(&self, worker: u32, level: u8, word: u64, piece: u32) -> Option<Choice>
         requires worker { worker < self.now.setting.workers }
         requires level { IsLevel level }
         requires above { NoneAbove self.now.setting self.now.history worker level }
@@ -125,8 +128,8 @@ impl<'a> Position<'a> {
         requires within { piece < piece_count self.now.setting.torrent }
         requires first { FindsLeast (resumes_at self.now.setting self.now.history worker level)
             (resuming_order self.now.setting self.now.history) 0 (piece_count self.now.setting.torrent) (Some piece) }
-        ensures some { IfSome result (IsRuling self.now.setting self.now.history worker (next_answer self.now.setting self.now.history worker)) }
-        ensures picked { IfSome result (IsPickedBy self.now.setting self.now.history worker word) }
+        ensures some { IfSome result (IsChoice self.now.setting self.now.history worker (next_answer self.now.setting self.now.history worker)) }
+        ensures picked { IfSome result (IsPickedChoice self.now.setting self.now.history worker word) }
         ensures none { IfNone result (NoneAt self.now.setting self.now.history worker level) }
     {
         self.attest();
@@ -134,7 +137,10 @@ impl<'a> Position<'a> {
         match self.candidate(worker, level, true, word) {
             Some(other) if self.availability(other) < shown_by => {
                 match self.left_in(worker, other) {
-                    Some(block) => Some(Ruling::Starting(block)),
+                    Some(block) => Some(Choice {
+                        rule: Rule::Starting,
+                        block,
+                    }),
                     None => None,
                 }
             }
@@ -382,13 +388,13 @@ impl<'a> Position<'a> {
     /// Which rule asks for a block of a piece of this level, where no piece of a higher one has a block to ask, the peer is open and its
     /// pipe has room.
     #[inline(always)]
-    fn request_at(&self, worker: u32, level: u8, word: u64) -> Option<Ruling>
+    fn request_at(&self, worker: u32, level: u8, word: u64) -> Option<Choice>
         requires worker { worker < self.now.setting.workers }
         requires level { IsLevel level }
         requires above { NoneAbove self.now.setting self.now.history worker level }
         requires may { MayAsk self.now.setting self.now.history worker }
-        ensures some { IfSome result (IsRuling self.now.setting self.now.history worker (next_answer self.now.setting self.now.history worker)) }
-        ensures picked { IfSome result (IsPickedBy self.now.setting self.now.history worker word) }
+        ensures some { IfSome result (IsChoice self.now.setting self.now.history worker (next_answer self.now.setting self.now.history worker)) }
+        ensures picked { IfSome result (IsPickedChoice self.now.setting self.now.history worker word) }
         ensures none { IfNone result (NoneAt self.now.setting self.now.history worker level) }
     {
         if self.gives_none(worker, level) {
@@ -396,7 +402,10 @@ impl<'a> Position<'a> {
         }
         if self.comes_in_order(level) {
             return match self.rising(worker, level) {
-                Some(block) => Some(Ruling::Rising(block)),
+                Some(block) => Some(Choice {
+                    rule: Rule::Rising,
+                    block,
+                }),
                 None => None,
             };
         }
@@ -407,24 +416,27 @@ impl<'a> Position<'a> {
             return self.leading(worker, level, word, piece);
         }
         match self.starting(worker, level, word) {
-            Some(block) => Some(Ruling::Starting(block)),
+            Some(block) => Some(Choice {
+                rule: Rule::Starting,
+                block,
+            }),
             None => None,
         }
     }
 
     /// Which rule asks for a block that nobody is asked for: of a piece of the highest level that has one.
     #[inline(always)]
-    fn new_request(&self, worker: u32, word: u64) -> Option<Ruling>
+    fn new_request(&self, worker: u32, word: u64) -> Option<Choice>
         requires worker { worker < self.now.setting.workers }
         requires may { MayAsk self.now.setting self.now.history worker }
-        ensures some { IfSome result (IsRuling self.now.setting self.now.history worker (next_answer self.now.setting self.now.history worker)) }
-        ensures picked { IfSome result (IsPickedBy self.now.setting self.now.history worker word) }
+        ensures some { IfSome result (IsChoice self.now.setting self.now.history worker (next_answer self.now.setting self.now.history worker)) }
+        ensures picked { IfSome result (IsPickedChoice self.now.setting self.now.history worker word) }
         ensures none { IfNone result (some_block self.now.setting.torrent (usable self.now.setting self.now.history worker) ≡ false) }
     {
         self.attest();
         for slot in self.first_slot()..self.last_slot() {
-            if let Some(ruling) = self.request_at(worker, MOST_LEVEL - slot, word) {
-                return Some(ruling);
+            if let Some(choice) = self.request_at(worker, MOST_LEVEL - slot, word) {
+                return Some(choice);
             }
         }
         None
@@ -437,11 +449,14 @@ impl<'a> Position<'a> {
         ensures ruled { IsRuling self.now.setting self.now.history worker (next_answer self.now.setting self.now.history worker) result }
         ensures picked { IsPickedBy self.now.setting self.now.history worker word result }
     {
-        if let Some(ruling) = self.new_request(worker, word) {
-            return ruling;
+        if let Some(choice) = self.new_request(worker, word) {
+            return Ruling::Naming(choice);
         }
         if let Some(block) = self.asking_again(worker) {
-            return Ruling::Doubling(block);
+            return Ruling::Naming(Choice {
+                rule: Rule::Doubling,
+                block,
+            });
         }
         if self.is_interesting(worker) {
             Ruling::Just(Reply::Idle)
@@ -477,7 +492,10 @@ impl<'a> Position<'a> {
         ensures picked { IsPickedBy self.now.setting self.now.history worker word result }
     {
         if let Some(block) = self.first_due(worker) {
-            return Ruling::Cancelling(block);
+            return Ruling::Naming(Choice {
+                rule: Rule::Cancelling,
+                block,
+            });
         }
         if !self.is_open(worker) {
             return Ruling::Just(Reply::Choked);

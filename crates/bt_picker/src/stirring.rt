@@ -15,6 +15,7 @@ use bt_history::Reply;
 
 impl<'a> Position<'a> {
     /// Whether the block that begins there is asked of the worker's peer, which isn't late with it, and of no other.
+    #[inline(always)]
     fn is_asked_alone(&self, worker: u32, piece: u32, begin: u32) -> bool
         requires worker { worker < self.now.setting.workers }
         requires piece { piece < piece_count self.now.setting.torrent }

@@ -10,12 +10,11 @@ use Rattle.bt_tables.specs.Orders.{at}
 use Rattle.bt_tables.specs.declared.piece.Change.{Change}
 use Rattle.bt_tables.specs.declared.piece.Change.TheVariants.{Raise, Lower, Store, Pass, Fail, Level, Lose, Discard}
 use Rattle.bt_tables.specs.Tables.{HasRoomOf, PieceState, changed_row, edit, fresh_piece, less_available, more_available, one_if, piece_row}
-use Rattle.bt_tables.specs.Standings.{AreShelved, IsFiled, ShelfState, apart, group_of_row, is_resting, lowered_group, raised_group, refiled}
+use Rattle.bt_tables.specs.Standings.{Amount, AreShelved, IsFiled, ShelfState, apart, group_of_row, is_resting, lowered_group, raised_group, refiled}
 use Rattle.bt_tables.specs.Standings.{shown_row, slot_of, place_in, place_of, standing_of, touched_count, whole_rows}
 use Rattle.bt_tables.specs.declared.piece.Stage.{Stage}
 use Rattle.bt_tables.specs.declared.piece.Stage.TheVariants.{AskedOut, Open, Resting, Unbegun}
 use Rattle.bt_tables.specs.Apart.{AreApart}
-use Rattle.bt_tables.specs.declared.piece.Standing.{Standing}
 use Rattle.bt_tables.proofs.Shelves.{can_file, files, same_length}
 use Rattle.bt_tables.proofs.Tabled.{edit_set, get_or_edit_same, get_or_table, length_table, table_from}
 use Rattle.bt_tables.specs.declared.piece.TheConstants.{CROWD, GROUPS, SPAN, UNBEGUN}
@@ -277,12 +276,12 @@ kept_piece shelf rows shown now p are len is lp = record {
 }
 
 -- a change of the row, as it was read: how many peers show the piece, and how it stands before and after
-pub record IsChange (rows : List PieceState) (shown : List ℕ) (p : ℕ) (change : Change) (m : ℕ) (before after : Standing) : Type 0 where
+pub record IsChange (rows : List PieceState) (shown : List ℕ) (p : ℕ) (change : Change) (m : ℕ) (before after : Amount) : Type 0 where
   pub count : m ≡ at shown p
   pub before_is : before ≡ standing_of (shown_row m (piece_row rows p))
   pub after_is : after ≡ standing_of (shown_row m (changed_row change (piece_row rows p)))
 
-pub is_change : (rows now : List PieceState) (shown : List ℕ) (p : ℕ) (change : Change) (m n : ℕ) (row new : PieceState) (before after : Standing)
+pub is_change : (rows now : List PieceState) (shown : List ℕ) (p : ℕ) (change : Change) (m n : ℕ) (row new : PieceState) (before after : Amount)
     → p < length rows → p < length shown → m ≡ n → n ≡ get_or shown p n → row ≡ piece_row rows p → now ≡ edit rows p (changed_row change)
     → new ≡ piece_row now p → before ≡ standing_of (shown_row m row) → after ≡ standing_of (shown_row m new)
     → IsChange rows shown p change m before after
@@ -346,13 +345,13 @@ module _ (shelf : ShelfState) (rows : List PieceState) (shown : List ℕ) (p : �
       (λ i. group_of_row (shown_row (count i) (here i))) ∙ sym group_is
 
   -- the change can be put on the shelf, and then the shelf is that of the rows again
-  pub can_change : (change : Change) (m : ℕ) (before after : Standing) → IsChange rows shown p change m before after → IsFiled shelf before after
+  pub can_change : (change : Change) (m : ℕ) (before after : Amount) → IsChange rows shown p change m before after → IsFiled shelf before after
   can_change change m before after is =
       let row = piece_row rows p in
       can_file shelf whole p (shown_row m row) (shown_row m (changed_row change row)) before after kept.are in_whole
       (row_is row m (own_row rows p kept.within) is.count) is.before_is is.after_is (same_length change row)
 
-  pub changes : (now : ShelfState) (change : Change) (m : ℕ) (before after : Standing) → IsChange rows shown p change m before after
+  pub changes : (now : ShelfState) (change : Change) (m : ℕ) (before after : Amount) → IsChange rows shown p change m before after
       → now ≡ refiled shelf p before after → AreShelved now (whole_rows (set rows p (changed_row change (piece_row rows p))) shown)
   changes now change m before after is put =
       let row = piece_row rows p in

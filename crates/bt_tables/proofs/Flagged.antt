@@ -2,9 +2,10 @@
 use Rattle.std.proofs.Common.{◌≡◌, ℕ, zero, suc, ◌==◌, ◌+◌, ◌<◌, ◌≤◌, Bool, true, false, not, ◌&&◌, ◌||◌, List, [], ◌∷◌, ◌++◌, length, get_or, set, take}
 use Rattle.std.proofs.Common.{refl, ap, sym, ◌∙◌, arith, ⊎_elim}
 use Rattle.std.specs.Prelude.{if◌then◌else◌, nat_lt}
-use Rattle.std.specs.List.{filter, list_any, remove}
+use Rattle.std.specs.List.{count_by, filter, list_any, remove}
 use Rattle.std.proofs.lemmas.Bool.{and_parts, cases_eq, eqb-true, false_from_ne_true, false≢true, lt-ltb, or_from, or_left, or_parts}
 use Rattle.std.proofs.lemmas.List.{get_or-set_other, get_or-set_same, length-set}
+use Rattle.std.proofs.lemmas.List.Sums.{sum_by-cons}
 use Rattle.bt_meta.specs.declared.block.Block.{Block}
 use Rattle.bt_history.specs.History.{same_begin}
 use Rattle.bt_history.specs.Peers.{AreApart, has_place}
@@ -54,6 +55,43 @@ flagged_none test (b ∷ bs) (f ∷ flags) none =
         → list_any test (if x then b ∷ flagged bs flags else flagged bs flags) ≡ false
     by_flag true rest here = or_from (test b) _ here rest
     by_flag false rest here = rest
+
+-- a flag in front counts, if it is set
+count_front : (f : Bool) (flags : List Bool) → count_by (λ x. x) (f ∷ flags) ≡ one_if f + count_by (λ x. x) flags
+count_front f flags = sum_by-cons (λ (x : Bool). one_if x) f flags
+
+-- so many blocks are flagged as flags are set
+pub count_flagged : (bs : List Block) (flags : List Bool) → length flags ≡ length bs → length (flagged bs flags) ≡ count_by (λ f. f) flags
+count_flagged [] [] each = refl
+count_flagged [] (f ∷ flags) each = absurd (omega (arith, each))
+count_flagged (b ∷ bs) [] each = absurd (omega (arith, each))
+count_flagged (b ∷ bs) (true ∷ flags) each = omega (arith, count_flagged bs flags (omega (arith, each)), count_front true flags)
+count_flagged (b ∷ bs) (false ∷ flags) each = omega (arith, count_flagged bs flags (omega (arith, each)), count_front false flags)
+
+-- where no flag is set, all are alike: none in front of them is one behind them
+clear_front : (flags : List Bool) (n : ℕ) → length flags ≡ n → count_by (λ f. f) flags ≡ 0 → take n (false ∷ flags) ≡ flags
+clear_front [] zero len none = refl
+clear_front [] (suc n) len none = absurd (omega (arith, len))
+clear_front (f ∷ flags) zero len none = absurd (omega (arith, len))
+clear_front (true ∷ flags) (suc n) len none = absurd (omega (arith, none, count_front true flags))
+clear_front (false ∷ flags) (suc n) len none = ap (λ (l : List Bool). false ∷ l) (clear_front flags n (omega (arith, len)) (omega (arith, none, count_front false flags)))
+
+-- so it is the same whether one or the last one goes
+pub remove_clear : (flags : List Bool) (i n : ℕ) → i < length flags → length flags ≡ suc n → count_by (λ f. f) flags ≡ 0 → take n flags ≡ remove flags i
+remove_clear [] i n lt len none = absurd (omega (arith, lt))
+remove_clear (true ∷ flags) i n lt len none = absurd (omega (arith, none, count_front true flags))
+remove_clear (false ∷ flags) zero n lt len none = clear_front flags n (omega (arith, len)) (omega (arith, none, count_front false flags))
+remove_clear (false ∷ flags) (suc i) zero lt len none = absurd (omega (arith, lt, len))
+remove_clear (false ∷ flags) (suc i) (suc n) lt len none =
+    ap (λ (l : List Bool). false ∷ l) 
+    (remove_clear flags i n (omega (arith, lt)) (omega (arith, len)) (omega (arith, none, count_front false flags)))
+
+-- and each one read is clear
+pub read_clear : (flags : List Bool) (i : ℕ) (d : Bool) → i < length flags → count_by (λ f. f) flags ≡ 0 → get_or flags i d ≡ false
+read_clear [] i d lt none = absurd (omega (arith, lt))
+read_clear (true ∷ flags) i d lt none = absurd (omega (arith, none, count_front true flags))
+read_clear (false ∷ flags) zero d lt none = refl
+read_clear (false ∷ flags) (suc i) d lt none = read_clear flags i d (omega (arith, lt)) (omega (arith, none, count_front false flags))
 
 -- a new block isn't flagged
 pub flagged_push : (bs : List Block) (flags : List Bool) (b : Block) → length flags ≡ length bs

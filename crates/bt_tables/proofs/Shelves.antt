@@ -3,17 +3,35 @@ use Rattle.std.proofs.Common.{Some, not, ◌≡◌, ℕ, zero, suc, ◌+◌, ◌
 use Rattle.std.proofs.Common.{set, map, replicate, refl, ap, sym, ◌∙◌, arith, length-set}
 use Rattle.std.specs.Prelude.{if◌then◌else◌}
 use Rattle.std.specs.List.{sum_by, count_by}
-use Rattle.std.proofs.lemmas.List.{map-set, length-map, append-nil, map-append}
+use Rattle.std.proofs.lemmas.List.{set-get_or, map-set, length-map, append-nil, map-append}
 use Rattle.std.proofs.lemmas.List.Sums.{sum_by-set, count_by-le-length, get_or-le-sum_by, sum_by-le-sum_by, sum_by_push}
 use Rattle.bt_tables.specs.Orders.{at}
-use Rattle.bt_tables.specs.declared.piece.Standing.{Standing}
-use Rattle.bt_tables.specs.declared.piece.TheConstants.Standing.{NONE}
 use Rattle.bt_tables.specs.declared.piece.Change.{Change}
 use Rattle.bt_tables.specs.declared.piece.Change.TheVariants.{Raise, Lower, Store, Pass, Fail, Level, Lose, Discard}
 use Rattle.bt_tables.specs.Tables.{PieceState, changed_row, one_if, one_less, one_more, unheld}
-use Rattle.bt_tables.specs.Standings.{held_count, touched_count, wanted_length, group_of_row, standing_of, ShelfState, shelf_of, IsFiled, AreShelved}
-use Rattle.bt_tables.specs.Standings.{is_resting, refiled}
+use Rattle.bt_tables.specs.Standings.{Amount, held_count, touched_count, wanted_length, group_of_row, standing_of, ShelfState, shelf_of, IsFiled, AreShelved}
+use Rattle.bt_tables.specs.Standings.{AreGrouped, is_resting, no_amount, refiled}
 use Rattle.bt_tables.proofs.Tabled.{length_edit}
+
+-- where the group stays, and whether the piece is had and at rest, two sums alone change
+pub refiled_beside : (shelf : ShelfState) (p : ℕ) (before after : Amount) → AreGrouped before after → before.group ≡ at shelf.groups p
+    → IsFiled shelf before after
+    → record shelf {
+      unasked = shelf.unasked - before.unasked + after.unasked;
+      unheld = shelf.unheld - before.unheld + after.unheld;
+    } ≡ refiled shelf p before after
+refiled_beside shelf p before after are in_group fits =
+    let groups : shelf.groups ≡ set shelf.groups p after.group =
+    sym (ap (set shelf.groups p) (sym are.group ∙ in_group) ∙ set-get_or shelf.groups p 0) in
+    let had : shelf.had ≡ shelf.had - one_if before.had + one_if after.had = omega (arith, fits.had, ap one_if are.had) in
+    let left : shelf.left ≡ shelf.left - one_if before.left + one_if after.left = omega (arith, fits.left, ap one_if are.left) in
+    λ i. record {
+      groups = groups i;
+      unasked = shelf.unasked - before.unasked + after.unasked;
+      unheld = shelf.unheld - before.unheld + after.unheld;
+      had = had i;
+      left = left i;
+    }
 
 -- no change makes a piece longer
 pub same_length : (change : Change) (row : PieceState) → length (changed_row change row).blocks ≡ length row.blocks
@@ -117,7 +135,7 @@ module _ (rows : List PieceState) (p : ℕ) (old new : PieceState) (lp : p < len
   }
 
 -- a row's change can be put on the shelf
-pub can_file : (shelf : ShelfState) (rows : List PieceState) (p : ℕ) (old new : PieceState) (before after : Standing) → AreShelved shelf rows →
+pub can_file : (shelf : ShelfState) (rows : List PieceState) (p : ℕ) (old new : PieceState) (before after : Amount) → AreShelved shelf rows →
     p < length rows → old ≡ get_or rows p old
     → before ≡ standing_of old → after ≡ standing_of new → length new.blocks ≡ length old.blocks → IsFiled shelf before after
 can_file shelf rows p old new before after are lp read before_is after_is same =
@@ -125,7 +143,7 @@ can_file shelf rows p old new before after are lp read before_is after_is same =
     rw (are.is, before_is, after_is) (filed rows p old new lp read same own)
 
 -- and then the shelf is that of the rows again
-pub files : (shelf now : ShelfState) (rows : List PieceState) (p : ℕ) (old new : PieceState) (before after : Standing) → AreShelved shelf rows →
+pub files : (shelf now : ShelfState) (rows : List PieceState) (p : ℕ) (old new : PieceState) (before after : Amount) → AreShelved shelf rows →
     p < length rows → old ≡ get_or rows p old
     → before ≡ standing_of old → after ≡ standing_of new → length new.blocks ≡ length old.blocks
     → now ≡ refiled shelf p before after → AreShelved now (set rows p new)
@@ -162,7 +180,7 @@ filling rows n = record {
 }
 
 pub shelf_more : (rows : List PieceState) (row : PieceState) (n p : ℕ) → length rows ≡ p → 0 < n
-    → refiled (filling rows n) p NONE (standing_of row) ≡ filling (rows ++ row ∷ []) (n - 1)
+    → refiled (filling rows n) p no_amount (standing_of row) ≡ filling (rows ++ row ∷ []) (n - 1)
 shelf_more rows row n p len some =
     let mapped = length-map rows group_of_row in
     let at : p ≡ length (map group_of_row rows) = omega arith in
@@ -179,7 +197,7 @@ shelf_more rows row n p len some =
 
 pub shelf_fits : (rows : List PieceState) (row : PieceState) (n : ℕ) → length rows + 1 < 2 ^ 32 →
     sum_by (λ r. length r.blocks) (rows ++ row ∷ []) < 2 ^ 64
-    → IsFiled (filling rows n) NONE (standing_of row)
+    → IsFiled (filling rows n) no_amount (standing_of row)
 shelf_fits rows row n short fit =
     let few = count_by-le-length (λ (r : PieceState). r.had) rows in
     let one : had_of row ≤ 1 = at_most (row.had) in

@@ -1,11 +1,12 @@
 -- Rows as they are kept: what is counted of each piece, and the cells of all pieces one behind the other. No public clause of the picker
 -- cites this module.
-use Rattle.std.specs.Prelude.{ℕ, ◌+◌, ◌*◌, ◌<◌, ◌≤◌, ◌==◌, Bool, false, List, [], ◌∷◌, length, map, take, drop, min, slice_index_or, if◌then◌else◌}
+use Rattle.std.specs.Prelude.{ℕ, ◌+◌, ◌-◌, ◌*◌, ◌<◌, ◌≤◌, ◌==◌, ◌&&◌, ◌||◌, Bool, false, not, List, [], ◌∷◌, length, map, take, drop, min, slice_index_or, if◌then◌else◌}
 use Rattle.bt_history.specs.declared.rules.TheConstants.{USUAL_LEVEL}
 use Rattle.bt_tables.specs.declared.cell.Cell.{Cell}
 use Rattle.bt_tables.specs.declared.counts.Counts.{Counts}
+use Rattle.bt_tables.specs.declared.piece.Standing.{Standing}
 use Rattle.bt_tables.specs.Tables.{CellState, PieceState, piece_row}
-use Rattle.bt_tables.specs.Standings.{AreCounts, AreTouched, cell_kept}
+use Rattle.bt_tables.specs.Standings.{Amount, AreCounts, AreTouched, cell_kept, group_number, stage_by, wanted_by}
 
 -- up to which block each is held or asked, once the one at this index is, or isn't
 abbrev pub passed_to : ℕ → ℕ → Bool → ℕ
@@ -27,6 +28,20 @@ rows_of width (c ∷ counts) cells = row_of c (said (take width cells)) ∷ rows
 -- the counts of a piece of the usual level of which no block is held or asked
 abbrev pub no_counts : Counts
 no_counts = record { had = false; level = USUAL_LEVEL; held = 0; touched = 0; first = 0 }
+
+-- a piece that stands so is wanted and unbegun
+abbrev pub is_fresh_by : Standing → Bool
+is_fresh_by s = not (s.had || (s.level == 0)) && (s.touched == 0)
+
+-- what a piece amounts to that stands so
+abbrev pub amount_of : Standing → Amount
+amount_of s = record {
+  group = group_number s.level (stage_by s.had s.level s.touched s.blocks s.shown_by);
+  unasked = wanted_by s.level s.blocks - s.touched;
+  unheld = wanted_by s.level s.blocks - s.held;
+  had = s.had;
+  left = not (s.had || (s.level == 0));
+}
 
 -- the counts of piece p
 abbrev pub counts_at : List Counts → ℕ → Counts

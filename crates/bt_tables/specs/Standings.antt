@@ -4,7 +4,6 @@ use Rattle.std.specs.Prelude.{None, Some, is_some, slice_index_or, slice_set, if
 use Rattle.std.specs.List.{count_by, sum_by}
 use Rattle.bt_tables.specs.declared.cell.Cell.{Cell}
 use Rattle.bt_tables.specs.declared.cell.TheConstants.{HELD}
-use Rattle.bt_tables.specs.declared.piece.Standing.{Standing}
 use Rattle.bt_history.specs.declared.rules.TheConstants.{MOST_LEVEL, USUAL_LEVEL}
 use Rattle.bt_tables.specs.declared.piece.Stage.{Stage}
 use Rattle.bt_tables.specs.declared.piece.Stage.TheVariants.{AskedOut, Open, Resting, Unbegun}
@@ -89,13 +88,18 @@ group_number level stage = first_group level + place_of stage
 abbrev pub is_resting : PieceState → Bool
 is_resting row = row.had || (row.level == 0)
 
--- how far a piece is: at rest, unbegun, begun with its lacking blocks all asked (a full one, too), or else open
-abbrev pub stage_of_row : PieceState → Stage
-stage_of_row row =
-    if is_resting row then Resting
-    else if touched_count row.blocks == 0 then Unbegun row.availability
-    else if touched_count row.blocks == length row.blocks then AskedOut
+-- how far a piece is that is had or not and has this level, with so many blocks held or asked of so many, which n peers show: at rest, unbegun,
+-- begun with its lacking blocks all asked (a full one, too), or else open
+abbrev pub stage_by : Bool → ℕ → ℕ → ℕ → ℕ → Stage
+stage_by had level touched blocks n =
+    if had || (level == 0) then Resting
+    else if touched == 0 then Unbegun n
+    else if touched == blocks then AskedOut
     else Open
+
+-- how far the piece of a row is
+abbrev pub stage_of_row : PieceState → Stage
+stage_of_row row = stage_by row.had row.level (touched_count row.blocks) (length row.blocks) row.availability
 
 -- the group of a piece
 abbrev pub group_of_row : PieceState → ℕ
@@ -113,12 +117,35 @@ raised_group n g = if nat_lt CROWD n then g else if nat_lt (place_in g) UNBEGUN 
 abbrev pub lowered_group : ℕ → ℕ → ℕ
 lowered_group n g = if nat_lt CROWD n then g else if nat_lt UNBEGUN (place_in g) then g - 1 else g
 
+-- so many blocks are to be had of a piece of this level that has so many
+abbrev pub wanted_by : ℕ → ℕ → ℕ
+wanted_by level blocks = if level == 0 then 0 else blocks
+
 -- so many blocks are to be had of the piece
 abbrev pub wanted_length : PieceState → ℕ
-wanted_length row = if row.level == 0 then 0 else length row.blocks
+wanted_length row = wanted_by row.level (length row.blocks)
+
+-- what a piece amounts to: its group, how many of its blocks are unasked and aren't held, if it is wanted, whether it is had, and whether
+-- something is left to get of it
+pub record Amount : Type 0 where
+  pub group : ℕ
+  pub unasked : ℕ
+  pub unheld : ℕ
+  pub had : Bool
+  pub left : Bool
+
+-- two amounts of a piece that differ in what is unasked and unheld alone
+pub record AreGrouped (before after : Amount) : Type 0 where
+  pub group : before.group ≡ after.group
+  pub had : before.had ≡ after.had
+  pub left : before.left ≡ after.left
+
+-- the amount of no piece
+abbrev pub no_amount : Amount
+no_amount = record { group = 0; unasked = 0; unheld = 0; had = false; left = false }
 
 -- what the row of a piece amounts to
-abbrev pub standing_of : PieceState → Standing
+abbrev pub standing_of : PieceState → Amount
 standing_of row = record {
   group = group_of_row row;
   unasked = wanted_length row - touched_count row.blocks;
@@ -163,7 +190,7 @@ pub record AreOpen (groups : List ℕ) (bound : ℕ) (numbers : List ℕ) : Type
   pub all : (p : ℕ) → p < length groups → place_in (at groups p) ≡ place_of Open → IsIn numbers p
 
 -- a row's part is in the sums, and there is room for the new one
-pub record IsFiled (shelf : ShelfState) (before after : Standing) : Type 0 where
+pub record IsFiled (shelf : ShelfState) (before after : Amount) : Type 0 where
   pub unasked : before.unasked ≤ shelf.unasked
   pub unheld : before.unheld ≤ shelf.unheld
   pub had : one_if before.had ≤ shelf.had
@@ -174,7 +201,7 @@ pub record IsFiled (shelf : ShelfState) (before after : Standing) : Type 0 where
   pub left_fits : shelf.left - one_if before.left + one_if after.left < 2 ^ 32
 
 -- the shelf once a piece that stood one way stands another way
-abbrev pub refiled : ShelfState → ℕ → Standing → Standing → ShelfState
+abbrev pub refiled : ShelfState → ℕ → Amount → Amount → ShelfState
 refiled shelf piece before after = record {
   groups = slice_set shelf.groups piece after.group;
   unasked = shelf.unasked - before.unasked + after.unasked;

@@ -1,11 +1,12 @@
 //! A peer's line of requests, and which of them are late.
 
 ghost use Rattle.std.specs.Prelude.{◌≡◌, ◌<◌, ◌==◌, ◌&&◌, ◌||◌, ◌∷◌, ◌++◌, ◌+◌, ◌-◌, [], false, not, length, nat_lt, slice_index_or, take, true};
-ghost use Rattle.std.specs.Prelude.{IfNone, IfOk, IfSome, Some, None};
-ghost use Rattle.std.specs.List.{filter, list_any};
+ghost use Rattle.std.specs.Prelude.{Bool, IfNone, IfOk, IfSome, Some, None, vec_capacity};
+ghost use Rattle.std.specs.List.{count_by, filter, list_any, remove};
 ghost use Rattle.bt_meta.specs.declared.block.Block.{Block};
 ghost use Rattle.bt_history.specs.History.{same_begin};
 ghost use Rattle.bt_history.specs.Peers.{has_place};
+ghost use Rattle.bt_tables.specs.Tables.{one_if};
 
 use bt_meta::Block;
 use std::alloc::{AllocError, Global};
@@ -156,7 +157,7 @@ impl Line {
           overdue = filter (λ b. not (same_begin result b)) self.old.overdue;
         } }
     {
-        self.late -= usize::from(self.flags.remove(index));
+        self.late -= take_flag(&mut self.flags, self.late, index);
         self.blocks.remove(index)
     }
 
@@ -223,6 +224,22 @@ impl Line {
         self.flags.clear();
         self.late = 0;
     }
+}
+
+/// Takes the flag at this place out of those of which so many are set, and tells whether it was set, as 1 or 0. Where none is set all are
+/// alike, so the last one goes.
+fn take_flag(flags: &mut Vec<bool>, late: usize, index: usize) -> usize
+    requires index { index < length flags.old.items }
+    requires late { late ≡ count_by (λ f. f) flags.old.items }
+    ensures set { (d : Bool) → result ≡ one_if (slice_index_or flags.old.items index d) }
+    ensures items { flags.new.items ≡ remove flags.old.items index }
+    ensures capacity { vec_capacity flags.new ≡ vec_capacity flags.old }
+{
+    if late > 0 {
+        return usize::from(flags.remove(index));
+    }
+    let _last = flags.pop();
+    0
 }
 
 /// Where in the line the first block stands that begins there, if one does.

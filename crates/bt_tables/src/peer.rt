@@ -229,7 +229,8 @@ impl Peer {
         self.due.clear();
     }
 
-    /// Notes what came to pass with the peer.
+    /// Notes what came to pass with the peer. A caller says which dealing it is, and so has one line of this.
+    #[inline(always)]
     pub fn note(&mut self, dealing: Dealing)
         ensures { self.new ≡ noted dealing self.old }
     {

@@ -224,6 +224,7 @@ impl Peers {
 
     /// The block that begins there was stored, brought by the worker's own peer, where so many peers are asked for it and aren't late with
     /// it. Where no other peer is, the own row alone is told, and those of peers that are late with something.
+    #[inline(always)]
     pub fn forget(&mut self, worker: u32, piece: u32, begin: u32, askers: u32)
         requires worker { worker < length self.old }
         requires askers { askers ≡ count_below (length self.old) (λ q. expects_at piece begin (peer_row self.old q)) }

@@ -1,14 +1,14 @@
 //! The row of a piece as it is lent, and what it amounts to.
 
-ghost use Rattle.std.specs.Prelude.{◌≡◌, ◌<◌, ◌≤◌, ◌+◌, ◌-◌, ◌*◌, ◌^◌, ◌==◌, nat_lt, min, if◌then◌else◌, length, slice_index_or, slice_set, IfOk};
+ghost use Rattle.std.specs.Prelude.{◌≡◌, ◌<◌, ◌≤◌, ◌+◌, ◌-◌, ◌*◌, ◌^◌, ◌==◌, ◌||◌, nat_lt, min, if◌then◌else◌, length, slice_index_or, slice_set, IfOk};
 ghost use Rattle.std.specs.Prelude.{Bool, true, false, replicate};
 ghost use Rattle.bt_tables.specs.Tables.{HasRoomOf, PieceState, changed_row, edit, empty_cell, failed_row, fresh_piece, one_if, one_less, one_more};
 ghost use Rattle.bt_tables.specs.Tables.{stored_row};
 ghost use Rattle.bt_tables.specs.Floors.{is_fresh};
-ghost use Rattle.bt_tables.specs.Standings.{AreTouched, cell_kept, is_held, is_resting, is_touched, held_count, touched_count, group_of_row};
-ghost use Rattle.bt_tables.specs.Standings.{shown_row, first_group, group_number, place_in, place_of, stage_of_row, standing_of};
+ghost use Rattle.bt_tables.specs.Standings.{AreGrouped, AreTouched, cell_kept, is_held, is_resting, is_touched, held_count, touched_count};
+ghost use Rattle.bt_tables.specs.Standings.{shown_row, first_group, group_number, place_in, place_of, stage_by, standing_of, wanted_by};
 ghost use Rattle.bt_tables.specs.declared.piece.Stage.TheVariants.{Open};
-ghost use Rattle.bt_tables.specs.Rows.{Keeps, row_of, said};
+ghost use Rattle.bt_tables.specs.Rows.{Keeps, amount_of, is_fresh_by, row_of, said};
 
 use crate::cell::Cell;
 use crate::counts::Counts;
@@ -36,26 +36,136 @@ pub enum Change {
     Discard(u32),
 }
 
-/// What a piece amounts to among the others: its group, how many of its blocks are unasked and how many aren't held, if it is wanted,
-/// whether it is had, and whether something is left to get of it.
+/// How a piece stands among the others: what is counted of it, how many blocks it has, and how many peers show it. What it amounts to is
+/// worked out where it is read, since most changes leave its group.
 #[derive(Clone, Copy)]
 pub struct Standing {
-    pub group: u32,
-    pub unasked: u32,
-    pub unheld: u32,
     pub had: bool,
-    pub left: bool,
+    pub level: u8,
+    pub held: u32,
+    pub touched: u32,
+    pub blocks: u32,
+    pub shown_by: u32,
 }
 
 impl Standing {
     /// That of no piece.
     pub const NONE: Standing = Standing {
-        group: 0,
-        unasked: 0,
-        unheld: 0,
         had: false,
-        left: false,
+        level: 0,
+        held: 0,
+        touched: 0,
+        blocks: 0,
+        shown_by: 0,
     };
+
+    /// The group of the piece.
+    #[inline(always)]
+    pub fn group(self) -> u32
+        ensures is { result ≡ (amount_of self).group }
+        ensures few { result < GROUPS }
+    {
+        group_number(self.level, self.stage())
+    }
+
+    /// The stage of the piece.
+    #[inline(always)]
+    fn stage(self) -> Stage
+        ensures { result ≡ stage_by self.had self.level self.touched self.blocks self.shown_by }
+    {
+        if self.is_resting() {
+            Stage::Resting
+        } else if self.touched == 0 {
+            Stage::Unbegun(self.shown_by)
+        } else if self.is_asked_out() {
+            Stage::AskedOut
+        } else {
+            Stage::Open
+        }
+    }
+
+    /// Whether nothing is left to get of the piece: it is had, or not wanted.
+    #[inline(always)]
+    fn is_resting(self) -> bool
+        ensures { result ≡ (self.had || (self.level == 0)) }
+    {
+        self.had || self.level == 0
+    }
+
+    /// Whether each block is held or asked.
+    #[inline(always)]
+    fn is_asked_out(self) -> bool
+        ensures { result ≡ (self.touched == self.blocks) }
+    {
+        self.touched == self.blocks
+    }
+
+    /// How many blocks are to be had of the piece.
+    #[inline(always)]
+    fn wanted(self) -> u32
+        ensures { result ≡ wanted_by self.level self.blocks }
+    {
+        if self.level == 0 {
+            0
+        } else {
+            self.blocks
+        }
+    }
+
+    /// How many of its blocks are unasked, if it is wanted.
+    #[inline(always)]
+    pub fn unasked(self) -> u32
+        ensures { result ≡ (amount_of self).unasked }
+    {
+        self.wanted().saturating_sub(self.touched)
+    }
+
+    /// How many of its blocks aren't held, if it is wanted.
+    #[inline(always)]
+    pub fn unheld(self) -> u32
+        ensures { result ≡ (amount_of self).unheld }
+    {
+        self.wanted().saturating_sub(self.held)
+    }
+
+    /// Whether the piece is had.
+    #[inline(always)]
+    pub fn had(self) -> bool
+        ensures { result ≡ (amount_of self).had }
+    {
+        self.had
+    }
+
+    /// Whether something is left to get of it.
+    #[inline(always)]
+    pub fn left(self) -> bool
+        ensures { result ≡ (amount_of self).left }
+    {
+        !self.is_resting()
+    }
+
+    /// Whether the piece is wanted and unbegun.
+    #[inline(always)]
+    pub fn is_fresh(self) -> bool
+        ensures { result ≡ is_fresh_by self }
+    {
+        !self.is_resting() && self.touched == 0
+    }
+
+    /// Whether it is known at once that a piece which stood like this, and stands like the other, is in the same group: it was begun, and is,
+    /// and its level stays.
+    #[inline(always)]
+    pub fn is_grouped_as(self, other: Standing) -> bool
+        ensures { result ≡ true → AreGrouped (amount_of self) (amount_of other) }
+    {
+        let was_asked_out = self.is_asked_out();
+        let is_asked_out = other.is_asked_out();
+        self.touched > 0
+            && other.touched > 0
+            && self.level == other.level
+            && self.had == other.had
+            && was_asked_out == is_asked_out
+    }
 }
 
 /// How far a piece is. The pieces of one level and one stage are a group.
@@ -172,23 +282,19 @@ impl<'a> Piece<'a> {
         self.cells.len() as u32
     }
 
-    /// What the row amounts to, of a piece that so many peers show.
+    /// How the piece stands, which so many peers show.
     #[inline(always)]
     pub fn standing(&self, shown_by: u32) -> Standing
-        ensures is { result ≡ standing_of (shown_row shown_by self.now) }
-        ensures few { result.group < GROUPS }
+        ensures amount { amount_of result ≡ standing_of (shown_row shown_by self.now) }
+        ensures fresh { is_fresh_by result ≡ is_fresh self.now }
     {
-        let blocks = if self.counts.level == 0 {
-            0
-        } else {
-            self.len()
-        };
         Standing {
-            group: self.group(shown_by),
-            unasked: blocks.saturating_sub(self.counts.touched),
-            unheld: blocks.saturating_sub(self.counts.held),
             had: self.counts.had,
-            left: !self.is_resting(),
+            level: self.counts.level,
+            held: self.counts.held,
+            touched: self.counts.touched,
+            blocks: self.len(),
+            shown_by,
         }
     }
 
@@ -198,31 +304,6 @@ impl<'a> Piece<'a> {
         ensures { result ≡ is_resting self.now }
     {
         self.counts.had || self.counts.level == 0
-    }
-
-    /// The group of a piece that so many peers show.
-    #[inline(always)]
-    fn group(&self, shown_by: u32) -> u32
-        ensures is { result ≡ group_of_row (shown_row shown_by self.now) }
-        ensures few { result < GROUPS }
-    {
-        group_number(self.counts.level, self.stage(shown_by))
-    }
-
-    /// The stage of a piece that so many peers show.
-    #[inline(always)]
-    fn stage(&self, shown_by: u32) -> Stage
-        ensures { result ≡ stage_of_row (shown_row shown_by self.now) }
-    {
-        if self.is_resting() {
-            Stage::Resting
-        } else if self.counts.touched == 0 {
-            Stage::Unbegun(shown_by)
-        } else if self.counts.touched == self.len() {
-            Stage::AskedOut
-        } else {
-            Stage::Open
-        }
     }
 
     /// Whether each block is held.

@@ -195,8 +195,8 @@ impl Pieces {
         let shown_by = u32::from(self.shown_by[piece as usize]);
         let before = self.rows.row(piece).standing(shown_by);
         self.rows.apply(piece, change);
-        self.front = front_with(self.front, piece, self.rows.row(piece).is_fresh());
         let after = self.rows.row(piece).standing(shown_by);
+        self.front = front_with(self.front, piece, after.is_fresh());
         self.shelf.put(piece, before, after);
     }
 

@@ -3,6 +3,7 @@
 ghost use Rattle.std.specs.Prelude.{◌≡◌, ◌<◌, ◌≤◌, ◌+◌, ◌-◌, ◌^◌, true, false, length, replicate, slice_set, slice_index_or, IfOk};
 ghost use Rattle.bt_tables.specs.Orders.{at, ListsGroup, NoneBetween, SomeBetween};
 ghost use Rattle.bt_tables.specs.Risings.{IsRising};
+ghost use Rattle.bt_tables.specs.Rows.{amount_of};
 ghost use Rattle.bt_tables.specs.Standings.{IsFiled, ListsOpen, ShelfState, lowered_group, raised_group, refiled};
 
 use crate::order::Order;
@@ -164,16 +165,41 @@ impl Shelf {
     #[inline(always)]
     pub fn put(&mut self, piece: u32, before: Standing, after: Standing)
         requires piece { piece < length self.old.groups }
-        requires before { before.group ≡ at self.old.groups piece }
-        requires group { after.group < GROUPS }
-        requires fits { IsFiled self.old before after }
-        ensures { self.new ≡ refiled self.old piece before after }
+        requires before { (amount_of before).group ≡ at self.old.groups piece }
+        requires fits { IsFiled self.old (amount_of before) (amount_of after) }
+        ensures { self.new ≡ refiled self.old piece (amount_of before) (amount_of after) }
     {
-        self.put_in(piece, before.group, after.group);
-        self.unasked = self.unasked - u64::from(before.unasked) + u64::from(after.unasked);
-        self.unheld = self.unheld - u64::from(before.unheld) + u64::from(after.unheld);
-        self.had = self.had - u32::from(before.had) + u32::from(after.had);
-        self.left = self.left - u32::from(before.left) + u32::from(after.left);
+        if !before.is_grouped_as(after) {
+            return self.regroup(piece, before, after);
+        }
+        self.recount(before, after);
+    }
+
+    /// The same, where the piece may be in another group then.
+    #[inline(never)] // few changes come here
+    fn regroup(&mut self, piece: u32, before: Standing, after: Standing)
+        requires piece { piece < length self.old.groups }
+        requires before { (amount_of before).group ≡ at self.old.groups piece }
+        requires fits { IsFiled self.old (amount_of before) (amount_of after) }
+        ensures { self.new ≡ refiled self.old piece (amount_of before) (amount_of after) }
+    {
+        self.put_in(piece, before.group(), after.group());
+        self.recount(before, after);
+        self.had = self.had - u32::from(before.had()) + u32::from(after.had());
+        self.left = self.left - u32::from(before.left()) + u32::from(after.left());
+    }
+
+    /// Another number of its blocks is unasked, or isn't held.
+    #[inline(always)]
+    fn recount(&mut self, before: Standing, after: Standing)
+        requires { IsFiled self.old (amount_of before) (amount_of after) }
+        ensures { self.new ≡ record self.old {
+          unasked = self.old.unasked - (amount_of before).unasked + (amount_of after).unasked;
+          unheld = self.old.unheld - (amount_of before).unheld + (amount_of after).unheld;
+        } }
+    {
+        self.unasked = self.unasked - u64::from(before.unasked()) + u64::from(after.unasked());
+        self.unheld = self.unheld - u64::from(before.unheld()) + u64::from(after.unheld());
     }
 
     /// Moves the piece from the one group to the other.

@@ -308,6 +308,7 @@ impl Tables {
 
     /// Notes the floor that the reply to Next tells. Beyond the peer's reach there may be pieces that it shows, and where it is late such as are
     /// not asked of it, so nothing is told then.
+    #[inline(always)]
     pub fn learn(&mut self, worker: u32, reply: Reply)
         requires worker { worker < length self.old.peers }
         requires told { (peer_row self.old.peers worker).reach ≡ MOST_LEVEL → (peer_row self.old.peers worker).overdue ≡ [] → (n : ℕ) → TellsFloor self.old reply n
@@ -485,6 +486,7 @@ impl Tables {
     }
 
     /// Next, by its reply.
+    #[inline(always)]
     pub fn put_next(&mut self, worker: u32, reply: Reply)
         requires worker { worker < length self.old.peers }
         requires request { (b : Block) → reply ≡ Reply.Request b → HasRoomFor self.old worker b }
@@ -498,6 +500,7 @@ impl Tables {
     }
 
     /// The block is asked of the peer.
+    #[inline(always)]
     fn ask(&mut self, worker: u32, block: Block)
         requires worker { worker < length self.old.peers }
         requires room { HasRoomFor self.old worker block }
@@ -542,6 +545,7 @@ impl Tables {
     }
 
     /// Puts an arrival in, by its reply.
+    #[inline(always)]
     pub fn put_arrival(&mut self, worker: u32, piece: u32, begin: u32, reply: Reply)
         requires worker { worker < length self.old.peers }
         requires stored { IsTrue (stores reply) → HasBlock self.old piece (begin / block_size) }

@@ -31,6 +31,19 @@ pub fn call(
 ) -> Result<Reply, Fault>
     ensures { AtHandle (λ h e o. Makes h e worker (action_told told.entry) o) picker.old.held picker.new.held result }
 {
+    call_in_place(alloc, picker, worker, told)
+}
+
+/// The same, compiled into its caller for the call that this makes: for the two calls that a client makes for each block.
+#[inline(always)]
+fn call_in_place(
+    alloc: Global,
+    picker: &mut PickerHandle,
+    worker: u32,
+    told: Told<'_>,
+) -> Result<Reply, Fault>
+    ensures { AtHandle (λ h e o. Makes h e worker (action_told told.entry) o) picker.old.held picker.new.held result }
+{
     let mut held = picker.take(alloc).ok_or(Fault::Shut)?;
     let outcome = held.call(alloc, worker, told);
     *picker = holding(held);
@@ -39,6 +52,20 @@ pub fn call(
 
 /// Makes the worker's call, which names the piece.
 pub fn call_at(
+    alloc: Global,
+    picker: &mut PickerHandle,
+    worker: u32,
+    piece: u32,
+    told: Told<'_>,
+) -> Result<Reply, Fault>
+    ensures { AtHandle (λ h e o. MakesAt h e worker piece (action_told told.entry) o) picker.old.held picker.new.held result }
+{
+    call_at_in_place(alloc, picker, worker, piece, told)
+}
+
+/// The same, compiled into its caller.
+#[inline(always)]
+fn call_at_in_place(
     alloc: Global,
     picker: &mut PickerHandle,
     worker: u32,
@@ -245,7 +272,10 @@ pub extern "C" fn piecepick_next(
     ensures { Tells (λ h e o. Makes h e worker (actions.Next word) o)
         picker.old.held picker.new.held result answer.new }
 {
-    tell(call(alloc, picker, worker, Told::Next(word)), answer)
+    tell(
+        call_in_place(alloc, picker, worker, Told::Next(word)),
+        answer,
+    )
 }
 
 /// The block that begins `begin` bytes into the piece is asked of the peer no more: the peer rejected it (BEP 6), or the request was not sent.
@@ -262,7 +292,10 @@ pub extern "C" fn piecepick_release(
         picker.old.held picker.new.held result answer.new }
 {
     let told = Told::Release { piece, begin };
-    tell(call_at(alloc, picker, worker, piece, told), answer)
+    tell(
+        call_at_in_place(alloc, picker, worker, piece, told),
+        answer,
+    )
 }
 
 /// The request of the block that begins `begin` bytes into the piece takes too long. It stays asked of the peer, and other peers may be asked
@@ -280,7 +313,10 @@ pub extern "C" fn piecepick_late(
         picker.old.held picker.new.held result answer.new }
 {
     let told = Told::Late { piece, begin };
-    tell(call_at(alloc, picker, worker, piece, told), answer)
+    tell(
+        call_at_in_place(alloc, picker, worker, piece, told),
+        answer,
+    )
 }
 
 /// A `piece` message came: a block, `begin` bytes into the piece. A picker that keeps nothing reads none of its bytes, and another one keeps
@@ -303,5 +339,8 @@ pub extern "C" fn piecepick_arrived(
         begin,
         bytes,
     };
-    tell(call_at(alloc, picker, worker, piece, told), answer)
+    tell(
+        call_at_in_place(alloc, picker, worker, piece, told),
+        answer,
+    )
 }

@@ -17,6 +17,7 @@ pub fn tell_done(outcome: Result<(), Fault>) -> u32
 }
 
 /// The status of a call, with its answer.
+#[inline(always)]
 pub fn tell(outcome: Result<Reply, Fault>, answer: &mut Answer) -> u32
     ensures status { result ≡ status_of outcome }
     ensures answer { answer.new ≡ told outcome }

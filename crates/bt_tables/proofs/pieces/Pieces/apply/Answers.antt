@@ -1,10 +1,10 @@
 use Rattle.std.proofs.Common.{◌≡◌, ◌∙◌, List, ap, subst, sym, arith, length, length-set, refl}
-use Rattle.bt_tables.specs.declared.piece.Standing.{Standing}
 use Rattle.bt_tables.specs.Tables.{HasRoomOf, PieceState, changed_row, piece_row}
-use Rattle.bt_tables.specs.Standings.{whole_rows}
+use Rattle.bt_tables.specs.Standings.{Amount, whole_rows}
 use Rattle.bt_tables.proofs.Apart.{IsChange, IsKept, can_change, changed_counts, changes, edit_is, edited_row, edited_rows, in_groups, is_change}
 use Rattle.bt_tables.proofs.Apart.{kept_piece, lent_row, own_row, same_room, stands_in}
 use Rattle.bt_tables.specs.Floors.{is_fresh}
+use Rattle.bt_tables.specs.Rows.{amount_of}
 use Rattle.bt_tables.proofs.Fronts.{front_kept}
 use Rattle.bt_tables.proofs.Tabled.{length_edit}
 use Rattle.bt_tables.proofs.pieces.Pieces.apply.Goals as goal
@@ -47,13 +47,6 @@ row-requires-2 c =
     let kept = kept_piece o.shelf o.rows o.shown_by.items _ p c.self.invariant.0 c.self.invariant.1 c.self.view_is c.requires.piece in
     omega (arith, kept.within, ap length c.apply.ensures, length_edit o.rows p (changed_row c.args.change))
 
-pub row-requires-3 : goal.row-requires-3
-row-requires-3 c =
-    let o = c.self.inside in
-    let p = c.args.piece in
-    let kept = kept_piece o.shelf o.rows o.shown_by.items _ p c.self.invariant.0 c.self.invariant.1 c.self.view_is c.requires.piece in
-    omega (arith, kept.within, ap length c.apply.ensures, length_edit o.rows p (changed_row c.args.change))
-
 -- what is read of the piece
 kept : (c : goal.After-put-arg-1) → IsKept c.self.inside.shelf c.self.inside.rows c.self.inside.shown_by.items c.args.piece
 kept c =
@@ -62,11 +55,11 @@ kept c =
 
 -- and how it stands before and after
 stands : (c : goal.After-put-arg-1) → IsChange c.self.inside.rows c.self.inside.shown_by.items c.args.piece c.args.change c.from-shown_by.result
-    c.standing-before.result c.standing-after.result
+    (amount_of c.standing-before.result) (amount_of c.standing-after.result)
 stands c =
     let within = (kept c).within in
     is_change c.self.inside.rows _ c.self.inside.shown_by.items c.args.piece c.args.change _ _ _ _ _ _ within (omega (arith, (kept c).len, within))
-    c.from-shown_by.ensures c.index.ensures c.row.ensures c.apply.ensures c.row-3.ensures c.standing-before.ensures.is c.standing-after.ensures.is
+    c.from-shown_by.ensures c.index.ensures c.row.ensures c.apply.ensures c.row-2.ensures c.standing-before.ensures.amount c.standing-after.ensures.amount
 
 pub put-requires-clause-piece : goal.put-requires-clause-piece
 put-requires-clause-piece c = in_groups c.self.inside.shelf c.self.inside.rows c.self.inside.shown_by.items c.args.piece (kept c)
@@ -75,7 +68,7 @@ pub put-requires-clause-before : goal.put-requires-clause-before
 put-requires-clause-before c =
     let o = c.self.inside in
     let p = c.args.piece in
-    ap (λ (s : Standing). s.group) (stands c).before_is
+    ap (λ (s : Amount). s.group) (stands c).before_is
     ∙ stands_in o.shelf o.rows o.shown_by.items p (kept c) (piece_row o.rows p) c.from-shown_by.result (own_row o.rows p (kept c).within)
     (stands c).count
 
@@ -91,19 +84,19 @@ kept_at_end c =
     kept_piece o.shelf o.rows o.shown_by.items _ c.args.piece c.self.invariant.0 c.self.invariant.1 c.self.view_is c.requires.piece
 
 stands_at_end : (c : goal.After-put) → IsChange c.self.inside.rows c.self.inside.shown_by.items c.args.piece c.args.change c.from-shown_by.result
-    c.standing-before.result c.standing-after.result
+    (amount_of c.standing-before.result) (amount_of c.standing-after.result)
 stands_at_end c =
     let within = (kept_at_end c).within in
     is_change c.self.inside.rows _ c.self.inside.shown_by.items c.args.piece c.args.change _ _ _ _ _ _ within
-    (omega (arith, (kept_at_end c).len, within)) c.from-shown_by.ensures c.index.ensures c.row.ensures c.apply.ensures c.row-3.ensures
-    c.standing-before.ensures.is c.standing-after.ensures.is
+    (omega (arith, (kept_at_end c).len, within)) c.from-shown_by.ensures c.index.ensures c.row.ensures c.apply.ensures c.row-2.ensures
+    c.standing-before.ensures.amount c.standing-after.ensures.amount
 
 -- whether the piece is fresh then
 fresh_after : (c : goal.After-put) → c.is_fresh.result ≡ is_fresh (changed_row c.args.change (piece_row c.self.inside.rows c.args.piece))
 fresh_after c =
     let rows = c.self.inside.rows in
     let p = c.args.piece in
-    c.is_fresh.ensures ∙ ap is_fresh (c.row-2.ensures
+    c.is_fresh.ensures ∙ c.standing-after.ensures.fresh ∙ ap is_fresh (c.row-2.ensures
     ∙ (ap (λ (l : List PieceState). piece_row l p) c.apply.ensures ∙ edited_row rows p c.args.change (kept_at_end c).within))
 
 pub invariant_of-self : goal.invariant_of-self

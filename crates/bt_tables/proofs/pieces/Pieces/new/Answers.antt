@@ -5,11 +5,9 @@ use Rattle.std.proofs.lemmas.List.Sums.{sum_by_push}
 use Rattle.bt_meta.specs.Layout.{IsLayout, Layout, block_count, piece_count}
 use Rattle.bt_history.specs.Counting.{table}
 use Rattle.bt_tables.specs.Orders.{at}
-use Rattle.bt_tables.specs.declared.piece.Standing.{Standing}
-use Rattle.bt_tables.specs.declared.piece.TheConstants.Standing.{NONE}
 use Rattle.bt_tables.specs.Apart.{AreApart}
 use Rattle.bt_tables.specs.Tables.{PieceState, empty_cell, fresh_piece, piece_row}
-use Rattle.bt_tables.specs.Standings.{AreShelved, ShelfState, group_of_row, refiled, shown_row, standing_of, whole_rows}
+use Rattle.bt_tables.specs.Standings.{Amount, no_amount, AreShelved, ShelfState, group_of_row, refiled, shown_row, standing_of, whole_rows}
 use Rattle.bt_tables.proofs.Apart.{fresh_apart, whole_fresh}
 use Rattle.bt_tables.proofs.Blank.{few_blocks}
 use Rattle.bt_tables.proofs.Shelves.{filling, none_filed, shelf_fits, shelf_more, shelf_whole}
@@ -54,7 +52,7 @@ module _ (t : Layout) where
   sum_next layout rows i is lt le = sum_step (take i rows) (piece_row rows i) i le (few_cells layout rows i is lt)
 
   -- the standing that was read is that of the row, since no peer shows the piece
-  stands_new : (rows : List PieceState) (i : ℕ) (row : PieceState) (standing : Standing) → rows ≡ fresh → i < piece_count t → row ≡ piece_row rows i
+  stands_new : (rows : List PieceState) (i : ℕ) (row : PieceState) (standing : Amount) → rows ≡ fresh → i < piece_count t → row ≡ piece_row rows i
       → standing ≡ standing_of (shown_row 0 row) → standing ≡ standing_of (piece_row rows i)
   stands_new rows i row standing is lt row_is read =
       read ∙ (ap (λ (r : PieceState). standing_of (shown_row 0 r)) row_is ∙ unshown rows i is lt)
@@ -65,7 +63,7 @@ module _ (t : Layout) where
 
   -- the shelf of the rows so far, with the next one put on it
   shelf_next : (rows : List PieceState) (i : ℕ) → rows ≡ fresh → i < piece_count t
-      → refiled (filling (take i rows) (piece_count t - i)) i NONE (standing_of (piece_row rows i))
+      → refiled (filling (take i rows) (piece_count t - i)) i no_amount (standing_of (piece_row rows i))
       ≡ filling (take (i + 1) rows) (piece_count t - (i + 1))
   shelf_next rows i is lt =
       let long : length (take i rows) ≡ i = omega (arith, length-take i rows, rows_long rows is, lt) in
@@ -118,7 +116,7 @@ put-requires-clause-fits c =
     let i = c.loop-piece.piece in
     let lt : i < piece_count t = omega (arith, c.loop-piece-test.true, c.piece_count-piece-end.ensures.count) in
     let sum = sum_next t c.piece_count.ensures.layout rows i c.in_ok-rows.ensures lt c.loop-piece.invariant.1 in
-    rw (c.loop-piece.invariant.0, stands_new t rows i _ _ c.in_ok-rows.ensures lt c.row.ensures c.standing-standing.ensures.is)
+    rw (c.loop-piece.invariant.0, stands_new t rows i _ _ c.in_ok-rows.ensures lt c.row.ensures c.standing-standing.ensures.amount)
     (shelf_fits (take i rows) (piece_row rows i) _ (omega (arith, length-take i rows, c.loop-piece-test.true))
     (omega (arith, sum, c.loop-piece-test.true)))
 
@@ -129,8 +127,8 @@ loop-piece-preserved c =
     let i = c.loop-piece.piece in
     let lt : i < piece_count t = omega (arith, c.loop-piece-test.true, c.piece_count-piece-end.ensures.count) in
     let sum = sum_next t c.piece_count.ensures.layout rows i c.in_ok-rows.ensures lt c.loop-piece.invariant.1 in
-    let stands = stands_new t rows i _ _ c.in_ok-rows.ensures lt c.row.ensures c.standing-standing.ensures.is in
-    let put = rw (c.loop-piece.invariant.0, stands) at c.put.ensures in
+    let stands = stands_new t rows i _ _ c.in_ok-rows.ensures lt c.row.ensures c.standing-standing.ensures.amount in
+    let put = c.put.ensures ∙ (λ j. refiled (c.loop-piece.invariant.0 j) i no_amount (stands j)) in
     (put ∙ shelf_next t rows i c.in_ok-rows.ensures lt, rw (← take_next t rows i c.in_ok-rows.ensures lt) sum)
 
 -- the counts that are made are zeros
