@@ -35,9 +35,8 @@ elif [ -z "$heap" ]; then
 fi
 [ -f "$heap" ] || fail "there is no $heap: PIECEPICK_HEAP names the archive of the functions by which Rattle calls malloc"
 heap=$(readlink -f "$heap")
-"$here/../tools/build.py" bt_c
 # shellcheck disable=SC2086  # they are words
-(cd "$here/../crates/bt_c" && rt lib $flags)
+"$here/../tools/build.py" bt_c $flags
 cd "$work"
 # The library's archive alone lacks the functions by which Rattle calls malloc: they come along. In one object they and whatever else
 # isn't of the interface can be made local, so that two libraries that are written in Rattle go into one program.

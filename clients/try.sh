@@ -233,7 +233,10 @@ cpp() {
 delays() {
     cc -O2 -Wall -Wextra -Werror -I "$here/out" "$here/delays.c" "$here/out/libpiecepick.a" -o delays
     ./delays
-    cc -O2 -Wall -Wextra -Werror -I "$here/out" "$here/costs.c" "$here/out/libpiecepick.a" -o costs
+    for program in costs rounds; do
+        cc -O2 -Wall -Wextra -Werror -I "$here/out" "$here/$program.c" "$here/out/libpiecepick.a" -o "$program"
+    done
+    ./rounds 1000
 }
 
 python() { python3 -B -W error -m unittest discover -s "$here/python/tests"; }

@@ -2,7 +2,7 @@
 """Makes the folder `release`, by which program and library are used with no toolchain, or compares it with what the sources give.
 
     tools/release.py --verify    each file is the one that release/MANIFEST lists, and there is no other; no toolchain is needed
-    tools/release.py --check     the same, and what is proved and built from its sources is the same bit for bit
+    tools/release.py --check     the same, and what this toolchain builds from its sources is the same bit for bit
     tools/release.py --make      proves and builds all, and writes the folder anew
 
 The folder has the program for x86-64, and the library for x86-64 and aarch64, with headers and what pkg-config and CMake read. It has the
@@ -19,6 +19,7 @@ import shutil
 import subprocess
 import sys
 import tempfile
+from collections.abc import Iterable
 from pathlib import Path
 
 ROOT = Path(__file__).resolve().parent.parent
@@ -48,12 +49,16 @@ def sources(kind: str) -> str:
     return run(ROOT / "tools/sources.sh", kind).strip()
 
 
+def toolchain() -> str:
+    """The line by which the toolchain names itself."""
+    return run("rt", "version").strip()
+
+
 def build_program(stage: Path) -> None:
     """The program, for the least processor. The one that was built here for this processor has to be built anew then."""
     folder = ROOT / "crates/piecepick"
-    run(ROOT / "tools/build.py", "piecepick")
     (folder / "out/piecepick.sources").unlink(missing_ok=True)
-    run("rt", "run", "--backend", "llvm", "--cpu", LEVEL, "--", "--version", folder=folder)
+    run(ROOT / "tools/build.py", "piecepick", "--cpu", LEVEL)
     (stage / "bin").mkdir()
     shutil.copy(folder / "out/piecepick", stage / "bin/piecepick")
 
@@ -79,14 +84,18 @@ def build_library(folder: Path, processor: str) -> None:
     run(sys.executable, "-B", "-c", code, folder=ROOT / "clients/python", PIECEPICK_LIBRARY=str(out / "libpiecepick.so"))
 
 
-def build(folder: Path) -> None:
-    """Makes a release in an empty folder."""
-    kit = run("rt", "version").strip()
-    heads = [f"toolchain {kit}", *(f"{kind}-sources {sources(kind)}" for kind in KINDS)]
+def lacks_compiler(processor: str) -> bool:
+    """Whether the cross compiler for a processor is lacking."""
+    return processor != PROCESSORS[0] and not shutil.which(f"{processor}-linux-gnu-gcc")
+
+
+def build(folder: Path, processors: Iterable[str]) -> None:
+    """Makes a release in an empty folder, with the library for these processors."""
+    heads = [f"toolchain {toolchain()}", *(f"{kind}-sources {sources(kind)}" for kind in KINDS)]
     stage = folder / MACHINE
     stage.mkdir()
     build_program(stage)
-    for processor in PROCESSORS:
+    for processor in processors:
         build_library(folder, processor)
     lines = [f"# {head}" for head in heads] + [f"{digest}  {name}" for name, digest in digests(folder).items()]
     (folder / MANIFEST).write_text("\n".join(lines) + "\n", encoding="utf-8")
@@ -129,24 +138,30 @@ def verify() -> bool:
 
 
 def check() -> bool:
-    """The release is what its sources give. Where these are others there is nothing to compare, and it has to be whole."""
+    """The release is what its sources give. Where these are others, or the toolchain is, there is nothing to compare: it has to be whole."""
     is_well = verify()
     heads, _ = listed(RELEASE)
     if any(heads.get(f"{kind}-sources") != sources(kind) for kind in KINDS):
         print("release: it isn't built here, since its sources are others")
         return is_well
+    here = toolchain()
+    if here != heads.get("toolchain"):
+        print(f"release: it isn't built here, since it is by {heads.get('toolchain')}, and here is {here}")
+        return is_well
+    left_out = [processor for processor in PROCESSORS if lacks_compiler(processor)]
+    for processor in left_out:
+        print(f"release: what is for {processor} is passed over, since there is no {processor}-linux-gnu-gcc here")
     with tempfile.TemporaryDirectory() as folder:
-        build(Path(folder))
-        built, files = listed(Path(folder))
-        if built["toolchain"] != heads.get("toolchain"):
-            print(f"release: it is by {heads.get('toolchain')}, and here is {built['toolchain']}")
-        return compare(digests(RELEASE), files, "what is built here") and is_well
+        build(Path(folder), [processor for processor in PROCESSORS if processor not in left_out])
+        _, files = listed(Path(folder))
+        found = {name: digest for name, digest in digests(RELEASE).items() if not any(processor in name for processor in left_out)}
+        return compare(found, files, "what is built here") and is_well
 
 
 def make() -> bool:
     """Writes the release anew."""
     with tempfile.TemporaryDirectory() as folder:
-        build(Path(folder))
+        build(Path(folder), PROCESSORS)
         Path(folder).chmod(0o755)
         shutil.rmtree(RELEASE, ignore_errors=True)
         shutil.copytree(folder, RELEASE)

@@ -2,10 +2,12 @@
 """Runs all tests that need no prover, a line for each with its time.
 
     ./test               these tests
-    ./test --proofs      these, and behind them `rt ci`, which proves and tests all crates from nothing
+    ./test --proofs      proves and builds program and library, runs these tests on both, compares them with the folder `release`, if that
+                         is of these sources, and then runs `rt ci`, which proves and tests all crates from nothing
 
 The program is the one that ./piecepick runs. The library is that of clients/out, or else that of the folder `release`. A test whose compiler
-isn't on the machine is left out, and its line says so. The status is 0 where no test has failed.
+isn't on the machine is left out, and its line says so. One that goes by the clock is tried a second time where it failed, and its line says
+that too. The status is 0 where no test has failed.
 """
 
 from __future__ import annotations
@@ -28,12 +30,13 @@ LEFT_OUT = "passed over"  # what a test says of a part of it for which a tool is
 
 @dataclass(frozen=True)
 class Test:
-    """A command, and what has to be on the machine for it. Of some the last line says what was found."""
+    """A command, and what has to be on the machine for it. Of some the last line says what was found, and some go by the clock."""
 
     name: str
     words: tuple[str, ...]
     needs: tuple[str, ...] = ("python3",)
     tells: bool = False
+    by_clock: bool = False
 
 
 TESTS = (
@@ -46,11 +49,13 @@ TESTS = (
     Test("delays", ("clients/try.sh", "delays"), ("python3", "cc")),
     Test("Python", ("clients/try.sh", "python")),
     Test("random picks", ("tools/fuzz.py", "picks", "100000", "1", "--library", "--open"), tells=True),
-    Test("the downloader", ("clients/try.sh", "fetch")),
+    Test("the downloader", ("clients/try.sh", "fetch"), by_clock=True),
     Test("Rust", ("clients/try.sh", "rust"), ("python3", "cargo", "cc")),
     Test("aarch64, emulated", ("clients/try_aarch64.sh",), ("python3", "aarch64-linux-gnu-gcc", "aarch64-linux-gnu-g++", "qemu-aarch64")),
     Test("installed", ("clients/try_install.sh",), ("python3", "cc", "pkg-config", "readelf", "nm", "objcopy")),
 )
+BUILDS = (("./piecepick", "--build"), ("clients/build.sh",))
+PROOFS = (("tools/release.py", "--check"), ("rt", "ci"))
 
 
 def where() -> str | None:
@@ -65,6 +70,15 @@ def say(verdict: str, seconds: float | None, words: str) -> None:
     print(f"{verdict:<8} {took:>8}  {words}", flush=True)
 
 
+def run(words: list[str | Path]) -> tuple[bool, list[str]]:
+    """Runs a command: whether it did well in time, and the lines that it printed."""
+    try:
+        done = subprocess.run(words, cwd=ROOT, stdin=subprocess.DEVNULL, stdout=subprocess.PIPE, stderr=subprocess.STDOUT, timeout=LONGEST)
+        return done.returncode == 0, done.stdout.decode(errors="replace").splitlines()
+    except subprocess.TimeoutExpired as late:
+        return False, [*(late.stdout or b"").decode(errors="replace").splitlines(), f"it took more than {LONGEST:.0f} s"]
+
+
 def passes(test: Test, program: str | None) -> bool | None:
     """Runs a test and prints its line; whether it passed, or None where it is left out."""
     lacking = [tool for tool in test.needs if not shutil.which(tool)]
@@ -74,13 +88,14 @@ def passes(test: Test, program: str | None) -> bool | None:
     if PROGRAM in test.words and program is None:
         say("FAILED", None, f"{test.name}: of these sources there is no program; './piecepick --build' makes one")
         return False
-    words = [program if word == PROGRAM and program else word for word in test.words]
+    words: list[str | Path] = [program if word == PROGRAM and program else word for word in test.words]
     begin = time.monotonic()
-    try:
-        done = subprocess.run(words, cwd=ROOT, stdin=subprocess.DEVNULL, stdout=subprocess.PIPE, stderr=subprocess.STDOUT, timeout=LONGEST)
-        is_well, lines = done.returncode == 0, done.stdout.decode(errors="replace").splitlines()
-    except subprocess.TimeoutExpired as late:
-        is_well, lines = False, [*(late.stdout or b"").decode(errors="replace").splitlines(), f"it took more than {LONGEST:.0f} s"]
+    is_well, lines = run(words)
+    if not is_well and test.by_clock:
+        print("\n".join(f"    {line}" for line in lines[-SHOWN:]), flush=True)
+        say("again", time.monotonic() - begin, test.name)
+        begin = time.monotonic()
+        is_well, lines = run(words)
     say("well" if is_well else "FAILED", time.monotonic() - begin, f"{test.name}: {lines[-1]}" if test.tells and lines else test.name)
     for line in lines:
         if LEFT_OUT in line:
@@ -90,19 +105,24 @@ def passes(test: Test, program: str | None) -> bool | None:
     return is_well
 
 
+def do(commands: tuple[tuple[str, ...], ...]) -> bool:
+    """Runs commands, as far as they do well, and shows what they print; whether all did."""
+    return all(subprocess.run(words, cwd=ROOT, stdin=subprocess.DEVNULL).returncode == 0 for words in commands)
+
+
 def main() -> int:
     words = argparse.ArgumentParser(prog="test", description="Runs all tests that need no prover.")
-    words.add_argument("--proofs", action="store_true", help="run `rt ci` behind them, which proves and tests all crates from nothing")
+    words.add_argument("--proofs", action="store_true", help="prove and build what is tested, and run `rt ci` behind the tests")
     asked = words.parse_args()
+    if asked.proofs and not do(BUILDS):
+        return 1
     begin = time.monotonic()
     program = where()
     verdicts = [passes(test, program) for test in TESTS]
     failed, left_out = verdicts.count(False), verdicts.count(None)
     passed = len(verdicts) - failed - left_out
     print(f"{passed} passed, {failed} failed, {left_out} left out, in {time.monotonic() - begin:.0f} s", flush=True)
-    if failed:
-        return 1
-    return subprocess.run(["rt", "ci"], cwd=ROOT).returncode if asked.proofs else 0
+    return 0 if not failed and (not asked.proofs or do(PROOFS)) else 1
 
 
 if __name__ == "__main__":

@@ -172,6 +172,7 @@ impl<'a> Position<'a> {
     }
 
     /// Whether each lacking block that endgame waits for is asked for, and a wanted block is lacking.
+    #[inline(never)] // it is looked for at requests alone
     pub fn is_endgame(&self) -> bool
         ensures { result ≡ endgame self.now.setting self.now.history }
     {
@@ -179,6 +180,7 @@ impl<'a> Position<'a> {
     }
 
     /// Whether the reply asks for a block, and there is an endgame. It isn't looked for at another reply, which begins none.
+    #[inline(always)]
     pub(crate) fn asks_in_endgame(&self, reply: Reply) -> bool
         ensures { result ≡ (is_request reply && endgame self.now.setting self.now.history) }
     {

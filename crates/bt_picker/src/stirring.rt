@@ -27,6 +27,7 @@ impl<'a> Position<'a> {
     }
 
     /// Whether the block is expected from just one peer, and none is late with it.
+    #[inline(always)]
     fn has_lone_asker(&self, piece: u32, index: u32) -> bool
         requires piece { piece < piece_count self.now.setting.torrent }
         requires index { index < block_count self.now.setting.torrent piece }
