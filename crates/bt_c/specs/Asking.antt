@@ -7,7 +7,7 @@ use Rattle.bt_meta.specs.Layout.{block, block_count, piece_count, piece_len}
 use Rattle.bt_history.specs.Legal.{IsLegal}
 use Rattle.bt_history.specs.PickRules.{rule_number, rule_of}
 use Rattle.bt_history.specs.Peers.{outstanding, depth_so_far}
-use Rattle.bt_history.specs.Pieces.{availability, content, had, in_order, level, order_from, sender}
+use Rattle.bt_history.specs.Pieces.{asker_count, availability, content, had, in_order, level, order_from, sender}
 use Rattle.bt_picker.specs.Checks.{waits}
 use Rattle.bt_picker.specs.Contents.{complete, has_wanted}
 use Rattle.bt_picker.specs.Positions.{DeskState}
@@ -66,13 +66,20 @@ SaysSender d p k (Err NotHeld) = IsPiece d p × (k < block_count d.setting.torre
     × (sender d.history (block d.setting.torrent p k) ≡ None)
 SaysSender d p k (Err f) = ⊥
 
+-- a number of block k of piece p
+abbrev pub SaysOfBlock : DeskState → ℕ → ℕ → (Block → ℕ) → Result ℕ Fault → Type 0
+SaysOfBlock d p k number (Ok n) = IsPiece d p × (k < block_count d.setting.torrent p) × (n ≡ number (block d.setting.torrent p k))
+SaysOfBlock d p k number (Err Piece) = IsPiece d p → ⊥
+SaysOfBlock d p k number (Err BlockFault) = IsPiece d p × ((k < block_count d.setting.torrent p) → ⊥)
+SaysOfBlock d p k number (Err f) = ⊥
+
 -- the number of the rule by which block k of piece p was requested
 abbrev pub SaysRule : DeskState → ℕ → ℕ → Result ℕ Fault → Type 0
-SaysRule d p k (Ok n) = IsPiece d p × (k < block_count d.setting.torrent p)
-    × (n ≡ rule_number (rule_of d.setting d.history (block d.setting.torrent p k)))
-SaysRule d p k (Err Piece) = IsPiece d p → ⊥
-SaysRule d p k (Err BlockFault) = IsPiece d p × ((k < block_count d.setting.torrent p) → ⊥)
-SaysRule d p k (Err f) = ⊥
+SaysRule d p k o = SaysOfBlock d p k (λ b. rule_number (rule_of d.setting d.history b)) o
+
+-- of how many peers block k of piece p is requested that aren't late with it
+abbrev pub SaysAskers : DeskState → ℕ → ℕ → Result ℕ Fault → Type 0
+SaysAskers d p k o = SaysOfBlock d p k (asker_count d.setting d.history) o
 
 -- how many blocks are asked of worker w's peer, which are no more than the greatest depth that it had since nothing was asked of it
 abbrev pub CountsOutstanding : DeskState → ℕ → Result ℕ Fault → Type 0

@@ -10,7 +10,7 @@ use Rattle.bt_history.specs.Before.{is_loss}
 use Rattle.bt_history.specs.declared.call.Reason.TheVariants.{NoSuchPiece, WrongLength}
 use Rattle.bt_history.specs.declared.call.Reply.TheVariants.{Failed, Had, Refused}
 use Rattle.bt_history.specs.Pieces.{content}
-use Rattle.bt_picker.specs.Checks.{settling, waits}
+use Rattle.bt_picker.specs.Checks.{is_right, settling, waits}
 use Rattle.bt_picker.specs.Restores.{Restores as Restores_at}
 use Rattle.bt_picker.specs.declared.picker.restoring.Restored.{Restored}
 use Rattle.bt_picker.specs.declared.picker.restoring.Restored.TheVariants as restored
@@ -93,6 +93,11 @@ Settles kept h e p (Err f) = ⊥
 abbrev pub Vouches : Held → ℕ → List ℕ → Type 0
 Vouches h p digest = keeping h ≡ Nothing → waits (state h).setting (state h).history p ≡ true
     → digest ≡ sha1 (content (state h).setting (state h).history p)
+
+-- it is said of what arrived of piece p whether it has the metainfo's hash, where this waits at a picker that keeps nothing
+abbrev pub VouchesThat : Held → ℕ → Bool → Type 0
+VouchesThat h p passed = keeping h ≡ Nothing → waits (state h).setting (state h).history p ≡ true
+    → passed ≡ is_right (state h).setting (state h).history p
 
 -- the digest is that of the bytes, where the picker keeps nothing
 abbrev pub VouchesFor : Held → List ℕ → List ℕ → Type 0

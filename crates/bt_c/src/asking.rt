@@ -2,7 +2,7 @@
 ghost use Rattle.std.specs.Prelude.{◌≡◌, ◌%◌, ◌^◌};
 ghost use Rattle.bt_history.specs.Epochs.{epoch};
 ghost use Rattle.bt_c.specs.Asking.{Audits, AuditsBy, CountsOutstanding, IsOutstanding, Reads, ReadsFrom, SaysOfContent};
-ghost use Rattle.bt_c.specs.Asking.{SaysOfPiece, SaysRule, SaysSender, number_of, number_of_piece};
+ghost use Rattle.bt_c.specs.Asking.{SaysAskers, SaysOfPiece, SaysRule, SaysSender, number_of, number_of_piece};
 ghost use Rattle.bt_history.specs.Setting.{AreRules};
 ghost use Rattle.bt_c.specs.Behind.{state};
 ghost use Rattle.bt_c.specs.Rules.{rules_of_setting};
@@ -119,6 +119,19 @@ impl Held {
         }
         let rule = self.engine.picker().rule_of(piece, index);
         Ok(u32::from(rule.number()))
+    }
+
+    /// Of how many peers the block of this index is requested that aren't late with it.
+    pub fn askers(&self, piece: u32, index: u32) -> Result<u32, Fault>
+        ensures { SaysAskers (state self.now) piece index result }
+    {
+        if piece >= self.torrent.piece_count() {
+            return Err(Fault::Piece);
+        }
+        if index >= self.torrent.block_count(piece) {
+            return Err(Fault::Block);
+        }
+        Ok(self.engine.picker().askers(piece, index))
     }
 
     /// How many blocks are asked of the worker's peer.

@@ -4,7 +4,7 @@ ghost use Rattle.bt_history.specs.declared.event.Action.TheVariants as actions;
 ghost use Rattle.bt_picker.specs.Told.{action_told};
 ghost use Rattle.bt_c.specs.declared.engine.Keeping.TheVariants as keeps;
 ghost use Rattle.bt_c.specs.Behind.{state};
-ghost use Rattle.bt_c.specs.Calling.{Makes, MakesAt, MakesFlags, Restores, Settles, Spelling, Vouches, VouchesFor, outcome_of};
+ghost use Rattle.bt_c.specs.Calling.{Makes, MakesAt, MakesFlags, Restores, Settles, Spelling, Vouches, VouchesFor, VouchesThat, outcome_of};
 ghost use Rattle.bt_c.specs.Outcomes.{StaysItself};
 
 use crate::engine::Engine;
@@ -123,6 +123,24 @@ impl Held {
             return Err(Fault::NotWaiting);
         }
         Ok(picker.settle(0, piece, digest))
+    }
+
+    /// Settles a piece of a picker that keeps no content, by the client's word whether what arrived has the metainfo's hash.
+    pub fn judge(&mut self, piece: u32, passed: bool) -> Result<Reply, Fault>
+        requires { VouchesThat self.old piece passed }
+        ensures same { StaysItself self.old self.new }
+        ensures settles { Settles keeps.Nothing self.old (state self.new) piece result }
+    {
+        let Engine::Picker(picker) = &mut self.engine else {
+            return Err(Fault::Keeps);
+        };
+        if piece >= picker.torrent().piece_count() {
+            return Err(Fault::Piece);
+        }
+        if !picker.is_waiting(piece) {
+            return Err(Fault::NotWaiting);
+        }
+        Ok(picker.judge(0, piece, passed))
     }
 
     /// Tells a picker that keeps no content that a whole piece is there, whose bytes have this digest.

@@ -1,20 +1,20 @@
 //! The picker with no journal: its tables alone, and a history that only proofs read.
 ghost use Rattle.std.specs.Prelude.{◌≡◌, ◌<◌, ◌≤◌, ◌+◌, ◌%◌, ◌^◌, ◌&&◌, not, [], ℕ, List, true, IfOk, if◌then◌else◌};
-ghost use Rattle.bt_meta.specs.Layout.{IsLayout, block, block_count, piece_count};
+ghost use Rattle.bt_meta.specs.Layout.{IsLayout, block, block_count, hash_of, piece_count};
 ghost use Rattle.bt_history.specs.declared.call.Reply.{Reply};
 ghost use Rattle.bt_history.specs.declared.event.Action.TheVariants.{Arrived, Settle};
 ghost use Rattle.bt_history.specs.Entries.{action_of, event};
 ghost use Rattle.bt_history.specs.Epochs.{epoch, is_request};
 ghost use Rattle.bt_history.specs.Assured.{Assures};
 ghost use Rattle.bt_history.specs.History.{stores};
-ghost use Rattle.bt_history.specs.Legal.{IsLegal};
+ghost use Rattle.bt_history.specs.Legal.{IsLegal, same_bytes};
 ghost use Rattle.bt_history.specs.Picks.{ArePicked};
 ghost use Rattle.bt_history.specs.PickRules.{rule_of};
 ghost use Rattle.bt_history.specs.Peers.{alone, outstanding, reach};
-ghost use Rattle.bt_history.specs.Pieces.{availability, content, had, in_order, level, order_from, sender, wanted};
+ghost use Rattle.bt_history.specs.Pieces.{asker_count, availability, content, had, in_order, level, order_from, sender, wanted};
 ghost use Rattle.bt_picker.specs.Search.{IsLevel};
 ghost use Rattle.bt_history.specs.Setting.{AreRules, setting_of};
-ghost use Rattle.bt_picker.specs.Checks.{IsCurrent, settling, waits};
+ghost use Rattle.bt_picker.specs.Checks.{IsCurrent, is_right, settling, waits};
 ghost use Rattle.bt_picker.specs.Told.{Settles, Tells, action_told, checking, telling};
 ghost use Rattle.bt_check.specs.Checked as checked;
 ghost use Rattle.sha1.specs.Sha1.{sha1};
@@ -323,6 +323,17 @@ impl Picker {
             digest.now ≡ sha1 (content self.old.setting self.old.history piece) }
         ensures { Settles self.old self.new worker piece result }
     {
+        let passed = self.has_hash(piece, digest);
+        self.judge(worker, piece, passed)
+    }
+
+    /// The worker checked what it stored of the piece: the picker believes it that this has the metainfo's hash, or that it hasn't. So a client
+    /// that compares by itself tells just that. It is refused as `settle` is, and takes no memory.
+    pub fn judge(&mut self, worker: u32, piece: u32, passed: bool) -> Reply
+        requires { waits self.old.setting self.old.history piece ≡ true →
+            passed ≡ is_right self.old.setting self.old.history piece }
+        ensures { Settles self.old self.new worker piece result }
+    {
         if worker >= self.workers() {
             return Reply::Refused(Reason::NotJoined);
         }
@@ -332,7 +343,25 @@ impl Picker {
         if !self.is_waiting(piece) {
             return Reply::Refused(Reason::NotWaiting);
         }
-        self.settle_waiting(worker, piece, digest)
+        self.settle_waiting(worker, piece, passed)
+    }
+
+    /// Whether this is the metainfo's hash of the piece. No piece beyond the last has one.
+    fn has_hash(&self, piece: u32, digest: &[u8; 20]) -> bool
+        ensures { piece < piece_count self.now.setting.torrent → result ≡ same_bytes digest.now (hash_of self.now.setting.torrent piece) }
+    {
+        let torrent = self.torrent();
+        piece < torrent.piece_count() && digest == torrent.hash(piece)
+    }
+
+    /// Of how many peers block `index` of the piece is requested that aren't late with it: after the answer that requests it, the peer itself is
+    /// one of them, and any other is asked for it too.
+    pub fn askers(&self, piece: u32, index: u32) -> u32
+        requires piece { piece < piece_count self.now.setting.torrent }
+        requires index { index < block_count self.now.setting.torrent piece }
+        ensures { result ≡ asker_count self.now.setting self.now.history (block self.now.setting.torrent piece index) }
+    {
+        self.position().asker_count(piece, index)
     }
 
     /// Answers what the worker tells.
@@ -370,13 +399,13 @@ impl Picker {
     }
 
     /// Settles a piece that waits for it.
-    fn settle_waiting(&mut self, worker: u32, piece: u32, digest: &[u8; 20]) -> Reply
+    fn settle_waiting(&mut self, worker: u32, piece: u32, passed: bool) -> Reply
         requires worker { worker < self.old.setting.workers }
         requires waits { waits self.old.setting self.old.history piece ≡ true }
-        requires hashed { digest.now ≡ sha1 (content self.old.setting self.old.history piece) }
+        requires passed { passed ≡ is_right self.old.setting self.old.history piece }
         ensures { Gains self.old self.new (settling self.old.setting self.old.history worker piece result) }
     {
-        let reply = self.position().settled(worker, piece, digest);
+        let reply = self.position().settled(worker, piece, passed);
         enter_check(&mut self.tables, &self.past, worker, piece, reply);
         self.past = self.past.then(&Note::Settled {
             worker,

@@ -292,10 +292,7 @@ pub extern "C" fn piecepick_release(
         picker.old.held picker.new.held result answer.new }
 {
     let told = Told::Release { piece, begin };
-    tell(
-        call_at_in_place(alloc, picker, worker, piece, told),
-        answer,
-    )
+    tell(call_at_in_place(alloc, picker, worker, piece, told), answer)
 }
 
 /// The request of the block that begins `begin` bytes into the piece takes too long. It stays asked of the peer, and other peers may be asked
@@ -313,10 +310,7 @@ pub extern "C" fn piecepick_late(
         picker.old.held picker.new.held result answer.new }
 {
     let told = Told::Late { piece, begin };
-    tell(
-        call_at_in_place(alloc, picker, worker, piece, told),
-        answer,
-    )
+    tell(call_at_in_place(alloc, picker, worker, piece, told), answer)
 }
 
 /// A `piece` message came: a block, `begin` bytes into the piece. A picker that keeps nothing reads none of its bytes, and another one keeps
@@ -339,8 +333,5 @@ pub extern "C" fn piecepick_arrived(
         begin,
         bytes,
     };
-    tell(
-        call_at_in_place(alloc, picker, worker, piece, told),
-        answer,
-    )
+    tell(call_at_in_place(alloc, picker, worker, piece, told), answer)
 }

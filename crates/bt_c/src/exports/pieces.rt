@@ -2,7 +2,7 @@
 ghost use Rattle.std.specs.Prelude.{◌≡◌, ◌==◌, min, not, IfSome};
 ghost use Rattle.bt_history.specs.declared.event.Action.TheVariants as actions;
 ghost use Rattle.bt_c.specs.declared.engine.Keeping.TheVariants as keeps;
-ghost use Rattle.bt_c.specs.Calling.{Makes, MakesAt, MakesFlags, Restores, Settles, Vouches, VouchesFor};
+ghost use Rattle.bt_c.specs.Calling.{Makes, MakesAt, MakesFlags, Restores, Settles, Vouches, VouchesFor, VouchesThat};
 ghost use Rattle.bt_c.specs.Outcomes.{Tells};
 
 use super::peers::{call, call_at, level_of};
@@ -138,6 +138,25 @@ pub extern "C" fn piecepick_settle(
 {
     tell(
         lend(alloc, picker, |held| held.settle(piece, &digest.bytes)),
+        answer,
+    )
+}
+
+/// A picker that keeps nothing is told whether what arrived of a full piece has the metainfo's hash: where `passed` is 0, it hasn't.
+#[unsafe(no_mangle)]
+pub extern "C" fn piecepick_verdict(
+    alloc: Global,
+    picker: &mut PickerHandle,
+    piece: u32,
+    passed: u32,
+    answer: &mut Answer,
+) -> u32
+    requires { IfSome picker.old.held (λ h. VouchesThat h piece (not (passed == 0))) }
+    ensures { Tells (λ h e o. Settles keeps.Nothing h e piece o)
+        picker.old.held picker.new.held result answer.new }
+{
+    tell(
+        lend(alloc, picker, |held| held.judge(piece, passed != 0)),
         answer,
     )
 }

@@ -1,7 +1,7 @@
 //! The calls of C that ask a picker for a number.
 ghost use Rattle.std.specs.Prelude.{◌≡◌, ◌%◌, ◌^◌};
 ghost use Rattle.bt_history.specs.Epochs.{epoch};
-ghost use Rattle.bt_c.specs.Asking.{CountsOutstanding, IsOutstanding, Says, SaysOfPiece, SaysRule, SaysSender, number_of, number_of_piece};
+ghost use Rattle.bt_c.specs.Asking.{CountsOutstanding, IsOutstanding, Says, SaysAskers, SaysOfPiece, SaysRule, SaysSender, number_of, number_of_piece};
 ghost use Rattle.bt_c.specs.Behind.{state};
 ghost use Rattle.bt_c.specs.declared.asking.Question.TheVariants as questions;
 ghost use Rattle.bt_c.specs.declared.asking.PieceQuestion.TheVariants as of_piece;
@@ -264,6 +264,25 @@ pub extern "C" fn piecepick_rule(
     ensures says { TellsNumber (λ h o. SaysRule (state h) piece index o) picker.old.held result number.new }
 {
     tell_number(lend(alloc, picker, |held| held.rule(piece, index)), number)
+}
+
+/// Of how many peers a block is requested that aren't late with it: the one of this index, counted from the front of its piece. Right after the
+/// answer that requests it, the peer itself is one of them.
+#[unsafe(no_mangle)]
+pub extern "C" fn piecepick_askers(
+    alloc: Global,
+    picker: &mut PickerHandle,
+    piece: u32,
+    index: u32,
+    number: &mut u32,
+) -> u32
+    ensures same { picker.new.held ≡ picker.old.held }
+    ensures says { TellsNumber (λ h o. SaysAskers (state h) piece index o) picker.old.held result number.new }
+{
+    tell_number(
+        lend(alloc, picker, |held| held.askers(piece, index)),
+        number,
+    )
 }
 
 /// How many blocks are asked of the worker's peer.

@@ -39,8 +39,9 @@ impl Picker {
         if let Some(fault) = self.restore_fault(worker, piece, bytes.len()) {
             return fault;
         }
+        let passed = self.has_hash(piece, digest);
         self.bring_whole(worker, piece, bytes);
-        restored_by(self.settle_waiting(worker, piece, digest))
+        restored_by(self.settle_waiting(worker, piece, passed))
     }
 
     /// Why nothing is done, if it isn't.

@@ -1,4 +1,4 @@
-use Rattle.std.proofs.Common.{ap, true, ◌∙◌}
+use Rattle.std.proofs.Common.{ap, ◌∙◌}
 use Rattle.bt_history.specs.Before.{never_loses}
 use Rattle.bt_history.proofs.Losing.{journals_lose_nothing}
 use Rattle.bt_picker.proofs.desk.Desk.finished.Goals as goal

@@ -1,4 +1,4 @@
-use Rattle.std.proofs.Common.{ap, arith, length, sym}
+use Rattle.std.proofs.Common.{ap, arith}
 use Rattle.bt_history.specs.declared.event.Action.TheVariants.{Discard}
 use Rattle.bt_history.specs.History.{is_failed}
 use Rattle.bt_picker.proofs.KeeperCalls.{discarded_within, not_failed, told_stash}
