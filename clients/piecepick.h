@@ -8,8 +8,8 @@
    Lengths are in bytes.
 
    What the library can't test, and the caller must see to:
-   - A digest that is told is the SHA-1 of the bytes that it is told for (piecepick_settle, piecepick_restore). Of a block that came twice these
-     are the bytes that came first. So where the picker keeps nothing, write a block's bytes where piecepick_arrived answers STORED or
+   - A digest that is told is the SHA-1 of the bytes that it is told for (piecepick_settle, piecepick_restore), and a verdict says whether these
+     have the piece's hash (piecepick_verdict). Of a block that came twice these are the bytes that came first. So where the picker keeps nothing, write a block's bytes where piecepick_arrived answers STORED or
      COMPLETED, and at no other answer. What is DROPPED is thrown away. Else a good piece fails, and piecepick_sender names an honest peer.
    - A pointer to a picker or a job starts as NULL. It is filled and freed by its own two calls alone, and isn't NULL at any other.
    - Each other pointer is valid for its call: an answer and a number may be written, a buffer has the length that is given with it, isn't NULL
@@ -233,6 +233,10 @@ PIECEPICK_MUST piecepick_status piecepick_discard(piecepick_picker *picker, uint
 
 /* KEEPS_NOTHING: the piece is full, and this is the SHA-1 of its blocks as they were stored. HAD or FAILED. KEEPS, PIECE, NOT_WAITING. */
 PIECEPICK_MUST piecepick_status piecepick_settle(piecepick_picker *picker, uint32_t piece, const piecepick_digest *digest, piecepick_answer *answer);
+/* KEEPS_NOTHING: the piece is full, and you compared its hash yourself: `passed` isn't 0 where its blocks, as they were stored, have the hash of
+   the metainfo file. HAD or FAILED. KEEPS, PIECE, NOT_WAITING. Where the disk couldn't be read nothing is known of the hash: tell
+   piecepick_discard of each block, so that all are asked for again. */
+PIECEPICK_MUST piecepick_status piecepick_verdict(piecepick_picker *picker, uint32_t piece, uint32_t passed, piecepick_answer *answer);
 /* KEEPS_NOTHING: the whole piece is on a disk, for which this worker stands; it has joined, and shows nothing. The digest is the SHA-1 of the
    bytes, of which none is read: a mapping of the file costs no reading. HAD, FAILED, or REFUSED by NOT_JOINED. KEEPS, WORKER, PIECE, LENGTH,
    BEGUN. Blocks of a piece that isn't whole are told by piecepick_arrived, and stay held behind the worker's leave. */
@@ -273,6 +277,9 @@ PIECEPICK_MUST piecepick_status piecepick_sender(piecepick_picker *picker, uint3
    the block of a REQUEST before the next call that tells something, which may change it. Of any other block the number means nothing. PIECE,
    BLOCK. */
 PIECEPICK_MUST piecepick_status piecepick_rule(piecepick_picker *picker, uint32_t piece, uint32_t index, uint32_t *number);
+/* Of how many peers a block is requested that aren't late with it; `index` is its `begin` / 16384. Right after a REQUEST the peer itself is one of
+   them, so 1 says that the block is in flight nowhere else. PIECE, BLOCK. */
+PIECEPICK_MUST piecepick_status piecepick_askers(piecepick_picker *picker, uint32_t piece, uint32_t index, uint32_t *number);
 /* How many blocks are asked of the worker's peer, and each by its place from 0, the oldest request first, told as a REQUEST. WORKER, PLACE. */
 PIECEPICK_MUST piecepick_status piecepick_outstanding(piecepick_picker *picker, uint32_t worker, uint32_t *number);
 PIECEPICK_MUST piecepick_status piecepick_outstanding_at(piecepick_picker *picker, uint32_t worker, uint32_t place, piecepick_answer *answer);

@@ -190,6 +190,7 @@ public:
 
     /* Full pieces: by a digest, by a job, or here and now. */
     [[nodiscard]] Answer settle(std::uint32_t piece, const Digest &digest) { return answer(piecepick_settle, piece, &digest); }
+    [[nodiscard]] Answer verdict(std::uint32_t piece, bool passed) { return answer(piecepick_verdict, piece, std::uint32_t{passed}); }
     [[nodiscard]] Answer restore(std::uint32_t worker, std::uint32_t piece, Bytes bytes, const Digest &digest)
     {
         return answer(piecepick_restore, worker, piece, bytes.data(), bytes.size(), &digest);
@@ -216,6 +217,7 @@ public:
     [[nodiscard]] std::uint32_t blocks(std::uint32_t piece) { return number(piecepick_blocks, piece); }
     [[nodiscard]] std::uint32_t sender(std::uint32_t piece, std::uint32_t index) { return number(piecepick_sender, piece, index); }
     [[nodiscard]] PickRule rule(std::uint32_t piece, std::uint32_t index) { return static_cast<PickRule>(number(piecepick_rule, piece, index)); }
+    [[nodiscard]] std::uint32_t askers(std::uint32_t piece, std::uint32_t index) { return number(piecepick_askers, piece, index); }
     [[nodiscard]] std::uint32_t outstanding(std::uint32_t worker) { return number(piecepick_outstanding, worker); }
     [[nodiscard]] Answer outstanding_at(std::uint32_t worker, std::uint32_t place) { return answer(piecepick_outstanding_at, worker, place); }
 

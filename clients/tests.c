@@ -207,14 +207,22 @@ static piecepick_kind bring(piecepick_picker *picker, uint32_t worker, uint32_t 
     return answer.kind;
 }
 
-/* A full piece is checked in the way of its picker, by the bytes that came. A journal has two ways. */
+/* The client compares the digest itself, and tells what it found. */
+static piecepick_status tell_verdict(piecepick_picker *picker, uint32_t piece, const piecepick_digest *digest, piecepick_answer *answer)
+{
+    piecepick_digest expected;
+    EQUAL(piecepick_piece_hash(picker, piece, &expected), PIECEPICK_OK);
+    return piecepick_verdict(picker, piece, memcmp(&expected, digest, sizeof expected) == 0 ? piece : 0, answer);
+}
+
+/* A full piece is checked in the way of its picker, by the bytes that came. A client that keeps them has two ways, and so has a journal. */
 static piecepick_kind settle_bytes(piecepick_picker *picker, uint32_t keeps, uint32_t piece, const uint8_t *bytes, uint32_t length)
 {
     piecepick_answer answer;
     piecepick_job *job = NULL;
     if (keeps == PIECEPICK_KEEPS_NOTHING) {
         piecepick_digest digest = sha1(bytes, length);
-        EQUAL(piecepick_settle(picker, piece, &digest, &answer), PIECEPICK_OK);
+        EQUAL((piece % 2 == 0 ? piecepick_settle : tell_verdict)(picker, piece, &digest, &answer), PIECEPICK_OK);
     } else if (keeps == PIECEPICK_KEEPS_JOURNAL && piece % 2 == 0) {
         EQUAL(piecepick_settle_now(picker, piece, &answer), PIECEPICK_OK);
     } else {
@@ -273,6 +281,8 @@ static uint64_t still_picture(piecepick_picker *picker)
             /* A number at any block, though it means something only of the one that was just requested. */
             EQUAL(piecepick_rule(picker, piece, index, &number), PIECEPICK_OK);
             EQUAL(number >= PIECEPICK_RULE_IN_ORDER && number <= PIECEPICK_RULE_LATE, 1);
+            sum = mixed(sum, number);
+            EQUAL(piecepick_askers(picker, piece, index, &number), PIECEPICK_OK);
             sum = mixed(sum, number);
         }
     }
@@ -715,10 +725,13 @@ static void no_piece(piecepick_picker *picker, uint32_t keeps, uint32_t piece)
     NO_NUMBER(piecepick_sender(picker, piece, MORE, &number), PIECEPICK_E_PIECE);
     NO_NUMBER(piecepick_rule(picker, piece, 0, &number), PIECEPICK_E_PIECE);
     NO_NUMBER(piecepick_rule(picker, piece, MORE, &number), PIECEPICK_E_PIECE);
+    NO_NUMBER(piecepick_askers(picker, piece, 0, &number), PIECEPICK_E_PIECE);
+    NO_NUMBER(piecepick_askers(picker, piece, MORE, &number), PIECEPICK_E_PIECE);
     SPOIL(digest);
     EQUAL(piecepick_piece_hash(picker, piece, &digest), PIECEPICK_E_PIECE);
     EQUAL(digest.bytes[0] == 0xa5 && digest.bytes[19] == 0xa5, 1);
     NO_ANSWER(settle_at(picker, piece, &answer), is_nothing ? PIECEPICK_E_PIECE : PIECEPICK_E_KEEPS);
+    NO_ANSWER(piecepick_verdict(picker, piece, 1, &answer), is_nothing ? PIECEPICK_E_PIECE : PIECEPICK_E_KEEPS);
     NO_ANSWER(restore_at(picker, piece, &answer), is_nothing ? PIECEPICK_E_PIECE : PIECEPICK_E_KEEPS);
     NO_ANSWER(piecepick_settle_now(picker, piece, &answer), is_journal ? PIECEPICK_E_PIECE : PIECEPICK_E_KEEPS);
     EQUAL(piecepick_read(picker, piece, room, PIECE), is_journal ? PIECEPICK_E_PIECE : PIECEPICK_E_KEEPS);
@@ -782,6 +795,10 @@ static void try_statuses(uint32_t keeps)
     NO_NUMBER(piecepick_rule(picker, 1, blocks_of(1), &number), PIECEPICK_E_BLOCK);
     NO_NUMBER(piecepick_rule(picker, pieces - 1, blocks_of(pieces - 1), &number), PIECEPICK_E_BLOCK);
     NO_NUMBER(piecepick_rule(picker, 1, MORE, &number), PIECEPICK_E_BLOCK);
+    NO_NUMBER(piecepick_askers(picker, pieces - 1, blocks_of(pieces - 1), &number), PIECEPICK_E_BLOCK);
+    NO_NUMBER(piecepick_askers(picker, 1, MORE, &number), PIECEPICK_E_BLOCK);
+    NO_ANSWER(piecepick_verdict(picker, 1, 0, &answer), is_nothing ? PIECEPICK_E_NOT_WAITING : PIECEPICK_E_KEEPS);
+    NO_ANSWER(piecepick_verdict(picker, 1, 1, &answer), is_nothing ? PIECEPICK_E_NOT_WAITING : PIECEPICK_E_KEEPS);
     EQUAL(piecepick_hash4(content, 0, content, 0, content, 0, content, 0, room, 79), PIECEPICK_E_LENGTH);
     EQUAL(piecepick_hash4(content, 0, content, 0, content, 0, content, 0, room, 81), PIECEPICK_E_LENGTH);
     /* Refusals change nothing either. */
@@ -1521,6 +1538,35 @@ static void try_rules(uint32_t keeps)
     QUIET(piecepick_release(picker, 1, 0, BLOCK, &answer));
     asks_by(picker, 1, 0, 0, BLOCK, PIECEPICK_RULE_IN_ORDER);
     if (keeps == PIECEPICK_KEEPS_JOURNAL) EQUAL(piecepick_audit(picker), PIECEPICK_OK);
+    piecepick_close(&picker);
+}
+
+/* ---- Of how many peers a block is requested. */
+
+static void try_askers(uint32_t keeps)
+{
+    piecepick_picker *picker = open_for(keeps, 3);
+    piecepick_answer answer;
+    uint32_t number;
+    for (uint32_t worker = 0; worker < 3; worker++) come(picker, worker);
+    QUIET(piecepick_want(picker, two, flags_len, &answer));
+    QUIET(piecepick_set_level(picker, 1, 0, &answer)); /* so piece 0 alone is wanted, which has two blocks */
+    NUMBER(piecepick_askers(picker, 0, 0, &number), 0);
+    BLOCKS(piecepick_next(picker, 0, 0, &answer), PIECEPICK_K_REQUEST, 0, 0);
+    NUMBER(piecepick_askers(picker, 0, 0, &number), 1);
+    BLOCKS(piecepick_next(picker, 0, 0, &answer), PIECEPICK_K_REQUEST, 0, BLOCK);
+    BLOCKS(piecepick_next(picker, 1, 0, &answer), PIECEPICK_K_REQUEST, 0, 0); /* in endgame */
+    NUMBER(piecepick_askers(picker, 0, 0, &number), 2);
+    NUMBER(piecepick_askers(picker, 0, 1, &number), 1);
+    QUIET(piecepick_late(picker, 0, 0, 0, &answer)); /* a late one doesn't count */
+    NUMBER(piecepick_askers(picker, 0, 0, &number), 1);
+    BLOCKS(piecepick_next(picker, 2, 0, &answer), PIECEPICK_K_REQUEST, 0, 0);
+    NUMBER(piecepick_askers(picker, 0, 0, &number), 2);
+    QUIET(piecepick_release(picker, 2, 0, 0, &answer));
+    NUMBER(piecepick_askers(picker, 0, 0, &number), 1);
+    EQUAL(bring(picker, 1, 0, 0, 0), PIECEPICK_K_STORED); /* what is held is requested of nobody */
+    NUMBER(piecepick_askers(picker, 0, 0, &number), 0);
+    NUMBER(piecepick_askers(picker, 0, 1, &number), 1);
     piecepick_close(&picker);
 }
 
@@ -3265,6 +3311,7 @@ int main(int argc, char **argv)
         {"a piece that it never had", try_lacks_of_nothing},
         {"a dropped piece in endgame", try_lacks_in_endgame},
         {"by which rule a block is requested", try_rules},
+        {"of how many peers a block is requested", try_askers},
         {"a request that takes too long", try_late},
         {"the depth of a late peer, and late told twice", try_late_depths},
         {"ends of a late request", try_late_ends},

@@ -151,6 +151,8 @@ int main()
         well = well && answer.kind == (worker == 0 ? PIECEPICK_K_COMPLETED : PIECEPICK_K_DROPPED);
     }
     well = well && bare.sender(0, 0) == 0 && file == "0";
+    well = well && bare.askers(0, 0) == 0 && throws(PIECEPICK_E_BLOCK, [&] { (void)bare.askers(0, 9); });
+    well = well && throws(PIECEPICK_E_PIECE, [&] { (void)bare.verdict(9, true); });
     well = well && bare.settle(0, hash4(file, std::string(), std::string(), std::string())[0]).kind == PIECEPICK_K_HAD;
     /* Of three pieces one is nowhere. A second peer is asked for one block in endgame, or for none where endgame waits for all pieces. */
     const std::uint8_t digests[60] = {}, two[1] = {0xc0};

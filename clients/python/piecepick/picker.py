@@ -466,6 +466,13 @@ class Picker:
         """Keeps.NOTHING: the piece is full, and this is the SHA-1 of its blocks as they were stored. HAD or FAILED."""
         return self._told(LIBRARY.piecepick_settle, _u32(piece), byref(_digest(digest)))
 
+    def verdict(self, piece: int, passed: bool) -> Answer:
+        """Keeps.NOTHING: the piece is full, and was compared: whether its blocks, as they were stored, have its hash. HAD or FAILED.
+
+        Where the disk couldn't be read nothing is known of the hash: tell `discard` of each block.
+        """
+        return self._told(LIBRARY.piecepick_verdict, _u32(piece), _u32(int(passed)))
+
     def restore(self, worker: int, piece: int, data: BytesLike, digest: BytesLike) -> Answer:
         """Keeps.NOTHING: the whole piece is on a disk, for which this worker stands. None of the data is read, so a mapping does."""
         lent, length = lend(data)
@@ -547,6 +554,10 @@ class Picker:
     def rule(self, piece: int, index: int) -> PickRule:
         """The rule by which a block was requested: ask it right after its REQUEST. Of any other block it means nothing."""
         return PickRule(self._count(LIBRARY.piecepick_rule, _u32(piece), _u32(index)))
+
+    def askers(self, piece: int, index: int) -> int:
+        """Of how many peers a block is requested that aren't late with it. Right after its REQUEST the peer itself is one of them."""
+        return self._count(LIBRARY.piecepick_askers, _u32(piece), _u32(index))
 
     def outstanding(self, worker: int) -> int:
         """How many blocks are asked of the worker's peer."""

@@ -381,6 +381,7 @@ class Alone(CallCase):
         self.assert_asked(1, (0, BLOCK))
         self.assert_asked(0, (0, 0))
         self.assertIs(self.made.rule(0, 0), PickRule.ENDGAME)
+        self.assertEqual((self.made.askers(0, 0), self.made.askers(0, 1)), (2, 1))
         self.assert_asked(1, (1, 0))
 
     def test_a_choke_shares_its_piece(self) -> None:
@@ -564,6 +565,15 @@ class Nothing(CallCase):
             self.assertEqual((made.is_had(1), made.is_had(2), made.is_waiting(1)), (True, False, False))
             for digest in (b"", bytes(19), bytes(21)):
                 self.assertRaises(ValueError, made.settle, 1, digest)
+
+    def test_verdict(self) -> None:
+        with with_peer() as made:
+            self.assert_status(Status.NOT_WAITING, made.verdict, 1, True)
+            self.assertEqual(bring(made, 1, PARTS[1]), STORED)
+            self.assertIs(made.verdict(1, False).kind, Kind.FAILED)
+            self.assertEqual(bring(made, 1, PARTS[1]), STORED)
+            self.assertIs(made.verdict(1, True).kind, Kind.HAD)
+            self.assertTrue(made.is_had(1))
 
     def test_a_bad_copy_comes_second(self) -> None:
         file, bad = bytearray(PIECE), bytes(BLOCK)

@@ -223,6 +223,14 @@ impl Picker {
         self.answer(|picker, answer| unsafe { sys::piecepick_settle(picker, piece, &digest, answer) })
     }
 
+    /// [`Keeps::Nothing`](crate::Keeps::Nothing): the piece is full, and was compared: whether its blocks, as they were stored, have its
+    /// hash. [`Answer::Had`] or [`Answer::Failed`]. As with [`settle`](Self::settle), the library can't test it.
+    ///
+    /// Where the disk couldn't be read nothing is known of the hash: tell [`discard`](Self::discard) of each block.
+    pub fn verdict(&mut self, piece: u32, passed: bool) -> Result<Answer, Error> {
+        self.answer(|picker, answer| unsafe { sys::piecepick_verdict(picker, piece, u32::from(passed), answer) })
+    }
+
     /// [`Keeps::Nothing`](crate::Keeps::Nothing): the whole piece is on a disk, for which this worker stands; it has joined, and shows
     /// nothing. None of the bytes is read, so a mapping of the file costs no reading. For the digest see [`settle`](Picker::settle).
     pub fn restore(&mut self, worker: u32, piece: u32, bytes: &[u8], digest: &Digest) -> Result<Answer, Error> {
@@ -323,6 +331,12 @@ impl Picker {
     /// [`Answer::Request`], before the next call that tells something. Of any other block it means nothing.
     pub fn rule(&self, piece: u32, index: u32) -> Result<PickRule, Error> {
         Ok(PickRule::of(self.number(|picker, number| unsafe { sys::piecepick_rule(picker, piece, index, number) })?))
+    }
+
+    /// Of how many peers a block is requested that aren't late with it; `index` counts the piece's blocks from its front. Right after an
+    /// [`Answer::Request`] the peer itself is one of them.
+    pub fn askers(&self, piece: u32, index: u32) -> Result<u32, Error> {
+        self.number(|picker, number| unsafe { sys::piecepick_askers(picker, piece, index, number) })
     }
 
     /// How many blocks are asked of the worker's peer.

@@ -154,6 +154,7 @@ extern "C" {
         digest: *const piecepick_digest,
         answer: *mut piecepick_answer,
     ) -> piecepick_status;
+    pub fn piecepick_verdict(picker: *mut piecepick_picker, piece: u32, passed: u32, answer: *mut piecepick_answer) -> piecepick_status;
     pub fn piecepick_restore(
         picker: *mut piecepick_picker,
         worker: u32,
@@ -183,6 +184,7 @@ extern "C" {
     pub fn piecepick_blocks(picker: *mut piecepick_picker, piece: u32, number: *mut u32) -> piecepick_status;
     pub fn piecepick_sender(picker: *mut piecepick_picker, piece: u32, index: u32, worker: *mut u32) -> piecepick_status;
     pub fn piecepick_rule(picker: *mut piecepick_picker, piece: u32, index: u32, number: *mut u32) -> piecepick_status;
+    pub fn piecepick_askers(picker: *mut piecepick_picker, piece: u32, index: u32, number: *mut u32) -> piecepick_status;
     pub fn piecepick_outstanding(picker: *mut piecepick_picker, worker: u32, number: *mut u32) -> piecepick_status;
     pub fn piecepick_outstanding_at(
         picker: *mut piecepick_picker,

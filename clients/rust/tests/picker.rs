@@ -598,6 +598,7 @@ fn a_request_tells_its_rule() {
     picker.want(&[0b1000_0000]).unwrap();
     assert_eq!([(); 2].map(|()| ruled(&mut picker, 1)), [(0, PickRule::Endgame); 2]);
     assert_eq!((picker.rule(PIECES, 0), picker.rule(0, 2)), (Err(Error::Piece), Err(Error::Block)));
+    assert_eq!((picker.askers(0, 0), picker.askers(1, 0), picker.askers(0, 2)), (Ok(2), Ok(0), Err(Error::Block)));
     assert_eq!(PickRule::Endgame.to_string(), "endgame");
 }
 
@@ -612,6 +613,11 @@ fn the_caller_hashes_what_it_keeps() {
     bring(&mut picker, 1, piece(&content, 1));
     assert_eq!(picker.settle(1, &sha1(piece(&content, 1))), Ok(Answer::Had));
     assert_eq!((picker.is_had(1), picker.is_had(2)), (Ok(true), Ok(false)));
+    assert_eq!(picker.verdict(2, true), Err(Error::NotWaiting));
+    bring(&mut picker, 2, piece(&content, 2));
+    assert_eq!(picker.verdict(2, false), Ok(Answer::Failed));
+    bring(&mut picker, 2, piece(&content, 2));
+    assert_eq!((picker.verdict(2, true), picker.is_had(2)), (Ok(Answer::Had), Ok(true)));
     assert_eq!(picker.take_job(1).map(|_| ()), Err(Error::Keeps));
     assert_eq!(picker.settle_now(1), Err(Error::Keeps));
     assert_eq!(picker.read(1), Err(Error::Keeps));
