@@ -83,7 +83,7 @@ remove_clear (true ∷ flags) i n lt len none = absurd (omega (arith, none, coun
 remove_clear (false ∷ flags) zero n lt len none = clear_front flags n (omega (arith, len)) (omega (arith, none, count_front false flags))
 remove_clear (false ∷ flags) (suc i) zero lt len none = absurd (omega (arith, lt, len))
 remove_clear (false ∷ flags) (suc i) (suc n) lt len none =
-    ap (λ (l : List Bool). false ∷ l) 
+    ap (λ (l : List Bool). false ∷ l)
     (remove_clear flags i n (omega (arith, lt)) (omega (arith, len)) (omega (arith, none, count_front false flags)))
 
 -- and each one read is clear

@@ -105,11 +105,7 @@ impl Standing {
     fn wanted(self) -> u32
         ensures { result ≡ wanted_by self.level self.blocks }
     {
-        if self.level == 0 {
-            0
-        } else {
-            self.blocks
-        }
+        if self.level == 0 { 0 } else { self.blocks }
     }
 
     /// How many of its blocks are unasked, if it is wanted.

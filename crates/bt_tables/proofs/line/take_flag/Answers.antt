@@ -1,4 +1,4 @@
-use Rattle.std.proofs.Common.{◌≡◌, ◌-◌, ◌∙◌, arith}
+use Rattle.std.proofs.Common.{◌-◌, ◌∙◌, arith}
 use Rattle.std.specs.Prelude.{vec_len}
 use Rattle.bt_tables.proofs.Flagged.{remove_clear}
 use Rattle.bt_tables.proofs.line.take_flag.Goals as goal

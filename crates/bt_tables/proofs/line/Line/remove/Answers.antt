@@ -1,4 +1,4 @@
-use Rattle.std.proofs.Common.{◌≡◌, ◌∙◌, List, false, ap, arith, get_or, length, not, refl, subst, sym}
+use Rattle.std.proofs.Common.{◌≡◌, ◌∙◌, List, false, ap, arith, get_or, length, not, subst, sym}
 use Rattle.std.specs.List.{filter, remove}
 use Rattle.std.proofs.lemmas.List.Edits.{length-remove}
 use Rattle.bt_meta.specs.declared.block.Block.{Block}
