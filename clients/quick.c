@@ -1,48 +1,94 @@
-/* A download from one peer, which has two pieces of zeros and sends each block at once. README.md shows the marked lines (tools/excerpt.py). */
+/* A download from one peer, which has two pieces of zeros. README.md shows the marked lines (tools/excerpt.py). */
 #include "piecepick.h"
 #include <stdlib.h>
 #include <string.h>
+
+enum { BLOCK = 16384, PIECE = 2 * BLOCK, MOST = 4 };
 #define HASH "\x51\x88\x43\x18\x49\xb4\x61\x31\x52\xfd\x7b\xdb\xa6\xa3\xff\x0a\x4f\xd6\x42\x4b"
 static const uint8_t metainfo[] = "d4:infod6:lengthi65536e4:name1:x12:piece lengthi32768e6:pieces40:" HASH HASH "ee";
-static const uint8_t bitfield[] = {0xc0}, block[16384] = {0};
-static uint8_t file[65536]; /* a client writes to its disk */
+static const uint8_t bitfield[] = {0xc0}, block[BLOCK] = {0};
+static uint8_t file[2 * PIECE]; /* a client writes to its disk */
+static piecepick_picker *picker;
+static piecepick_answer answer;
+
+/* The requests that the peer hasn't answered yet. */
+static struct { uint32_t piece, begin, length; } sent[MOST];
+static uint32_t count;
+
 static void must(piecepick_status status) { if (status != PIECEPICK_OK) exit((int)status); }
-/* The SHA-1 of a piece as it was written. */
-static piecepick_digest digest_of(const uint8_t *piece)
+
+static void send_request(uint32_t peer, uint32_t piece, uint32_t begin, uint32_t length)
 {
+    if (peer != 0 || count == MOST) exit(1);
+    sent[count].piece = piece;
+    sent[count].begin = begin;
+    sent[count++].length = length;
+}
+
+/* Nobody else has any of its blocks. */
+static void send_cancel(uint32_t peer, uint32_t piece, uint32_t begin, uint32_t length) { exit((int)(peer + piece + begin + length + 1)); }
+
+static void write_block(uint32_t piece, uint32_t begin, const uint8_t *bytes, uint32_t length) { memcpy(file + piece * PIECE + begin, bytes, length); }
+
+/* The SHA-1 of a piece as it was written. */
+static piecepick_digest digest_of(uint32_t piece)
+{
+    const uint8_t *bytes = file + piece * PIECE;
     uint8_t four[80];
     piecepick_digest digest;
-    must(piecepick_hash4(piece, 32768, piece, 0, piece, 0, piece, 0, four, sizeof four));
+    must(piecepick_hash4(bytes, PIECE, bytes, 0, bytes, 0, bytes, 0, four, sizeof four));
     memcpy(digest.bytes, four, sizeof digest.bytes);
     return digest;
 }
+
+/* excerpt: events */
+/* A peer is connected, has shown its pieces, and unchokes us. */
+static void peer_came(uint32_t peer)
+{
+    must(piecepick_join(picker, peer, &answer));
+    must(piecepick_bits(picker, peer, bitfield, sizeof bitfield, &answer));
+    must(piecepick_unchoke(picker, peer, &answer));
+}
+
+/* The peer may have room for requests: send what comes back, until it is neither a request nor a cancel. */
+static void fill(uint32_t peer)
+{
+    for (;;) {
+        must(piecepick_next(picker, peer, (uint64_t)rand(), &answer));
+        if (answer.kind == PIECEPICK_K_REQUEST) send_request(peer, answer.piece, answer.begin, answer.length);
+        else if (answer.kind == PIECEPICK_K_CANCEL) send_cancel(peer, answer.piece, answer.begin, answer.length);
+        else return;
+    }
+}
+
+/* A block came. Report it first, and write it only if the picker takes it: of a block that comes twice the first copy counts. */
+static void block_came(uint32_t peer, uint32_t piece, uint32_t begin, const uint8_t *bytes, uint32_t length)
+{
+    must(piecepick_arrived(picker, peer, piece, begin, bytes, length, &answer));
+    if (answer.kind == PIECEPICK_K_STORED || answer.kind == PIECEPICK_K_COMPLETED) write_block(piece, begin, bytes, length);
+    if (answer.kind == PIECEPICK_K_COMPLETED) {
+        piecepick_digest digest = digest_of(piece); /* the SHA-1 of what was written */
+        must(piecepick_settle(picker, piece, &digest, &answer));
+    }
+    fill(peer);
+}
+/* end of excerpt */
+
 int main(void)
 {
-    memset(file, 1, sizeof file);
-    /* excerpt: download */
-    piecepick_picker *picker = NULL;
     piecepick_options options = PIECEPICK_OPTIONS; /* the picker keeps no content, so the client hashes */
-    piecepick_answer next, answer;
+    uint32_t done = 0;
+    memset(file, 1, sizeof file);
     must(piecepick_open(&picker, metainfo, sizeof metainfo - 1, &options));
-    must(piecepick_join(picker, 0, &answer)); /* worker 0 has a peer, with which handshakes are exchanged */
-    must(piecepick_bits(picker, 0, bitfield, sizeof bitfield, &answer));
-    must(piecepick_unchoke(picker, 0, &answer));
-    for (uint32_t done = 0; !done; must(piecepick_has_wanted(picker, &done))) {
-        must(piecepick_next(picker, 0, (uint64_t)rand(), &next));
-        if (next.kind == PIECEPICK_K_CANCEL) continue;  /* send `cancel`, and ask on */
-        if (next.kind != PIECEPICK_K_REQUEST) return 1; /* nothing more for now: wait for what comes */
-        /* Send `request`. Here the block comes at once; in a client it comes later, and then the peer is asked again. */
-        must(piecepick_arrived(picker, 0, next.piece, next.begin, block, next.length, &answer));
-        uint8_t *piece = file + next.piece * 32768;
-        /* Write its bytes at these two answers, and at no other one: of a block that comes twice the first copy counts. */
-        if (answer.kind == PIECEPICK_K_STORED || answer.kind == PIECEPICK_K_COMPLETED) memcpy(piece + next.begin, block, next.length);
-        if (answer.kind != PIECEPICK_K_COMPLETED) continue;
-        piecepick_digest digest = digest_of(piece); /* of what was written */
-        must(piecepick_settle(picker, next.piece, &digest, &answer));
+    peer_came(0);
+    fill(0);
+    while (count > 0) {
+        count--;
+        block_came(0, sent[count].piece, sent[count].begin, block, sent[count].length);
     }
+    must(piecepick_has_wanted(picker, &done));
     must(piecepick_leave(picker, 0, &answer));
     piecepick_close(&picker);
-    /* end of excerpt */
     for (size_t at = 0; at < sizeof file; at++) if (file[at] != 0) return 1;
-    return 0;
+    return done ? 0 : 1;
 }

@@ -8,7 +8,8 @@ Goes over all pages of the repository where none is given. A page has a line `<!
 blank line parts them. A region is one of these:
 
 - the lines between a comment `excerpt: NAME` and the next comment `end of excerpt`, where FILE has them;
-- else the function NAME of a .rt, .rs, .c or .h file, from the comment above it to the closing brace at the indent of its first line.
+- else the function NAME of a .rt, .rs, .c or .h file, from the comment above it to the closing brace at the indent of its first line;
+- else the definition NAME of an .antt file, from the comment above it to the next blank line.
 
 Spaces that all lines of a region begin with are left out. With --check no page is written, and the status is 1 where one isn't as its files.
 """
@@ -64,6 +65,19 @@ def function(lines: list[str], name: str) -> list[str] | None:
     return None
 
 
+def definition(lines: list[str], name: str) -> list[str] | None:
+    """The lines of the definition of this name in formal words, with its comment, or None."""
+    head = re.compile(rf"(abbrev |unfoldable )?(pub )?{re.escape(name)} :")
+    for first, line in enumerate(lines):
+        if head.match(line):
+            begin = first
+            while begin > 0 and lines[begin - 1].startswith("--"):
+                begin -= 1
+            end = next((at for at in range(first, len(lines)) if not lines[at]), len(lines))
+            return lines[begin:end]
+    return None
+
+
 def excerpt(file: str, names: list[str]) -> str:
     """The block of code that the page shows of the file."""
     path = ROOT / file
@@ -72,9 +86,9 @@ def excerpt(file: str, names: list[str]) -> str:
     lines = path.read_text(encoding="utf-8").splitlines()
     regions = []
     for name in names:
-        region = marked(lines, name) or function(lines, name)
+        region = marked(lines, name) or function(lines, name) or definition(lines, name)
         if not region:
-            raise LookupError(f"{file} has no region and no function {name}")
+            raise LookupError(f"{file} has no region, no function and no definition {name}")
         regions.append(textwrap.dedent("\n".join(region)).strip("\n"))
     return f"```{LANGUAGES.get(path.suffix, '')}\n" + "\n\n".join(regions) + "\n```\n"
 
