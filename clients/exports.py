@@ -1,7 +1,8 @@
 #!/usr/bin/env python3
 """Compares the library's exports with its header, and with the Python package where it is there: names, and the types and names of
 parameters and results; the fields of structs; and the numbers of statuses, kinds of answers, reasons, rules, of what is kept, and of the
-interface.
+interface. What header, Python package and Rust crate say of a status and of a reason has to be the same too, and so have the numbers
+and names in docs/ERRORS.md.
 
 usage: exports.py        (in the repository; nothing needs to be built)
 
@@ -23,6 +24,9 @@ REASONS = SOURCES.parent.parent / "bt_history/src/call.rt"
 RULES = REASONS.parent / "pick_rule.rt"
 HEADER = HERE / "piecepick.h"
 NATIVE = HERE / "python" / "piecepick" / "_native.py"
+TEXTS = NATIVE.parent / "_texts.py"
+RUST = HERE / "rust" / "src"
+PAGE = HERE.parent / "docs" / "ERRORS.md"
 PREFIX = "piecepick_"
 
 # What a parameter of an export is in C; a slice is two, of which the second is its length. The allocator takes no room in a call.
@@ -233,6 +237,45 @@ def in_bytes(kind: str) -> int:
     raise Unread(f"a field of type {kind}")
 
 
+def header_texts() -> dict[str, str]:
+    """What the header says of each status and each reason."""
+    found = arms(HEADER, r'case PIECEPICK_((?:OK|E_|R_)\w*): return "([^"]*)";')
+    return {"E_OK" if name == "OK" else name: text for name, text in found}
+
+
+def package_texts() -> dict[str, str]:
+    """What the Python package says of them."""
+    named = Package(TEXTS).named
+    tables = {"E_": named["STATUS"], "R_": named["REASON"]}
+    return {letter + name: text for letter, table in tables.items() for name, text in ast.literal_eval(table).items()}
+
+
+def crate_texts() -> dict[str, str]:
+    """What the Rust crate says of those that it has a name for."""
+    errors = arms(RUST / "error.rs", r'(?m)^    (\w+) = \d+, "([^"]*)";')
+    reasons = arms(RUST / "answer.rs", r'Reason::(\w+) => "([^"]*)"')
+    return {f"E_{snake(name)}": text for name, text in errors} | {f"R_{snake(name)}": text for name, text in reasons}
+
+
+def texts() -> list[str]:
+    """A line for each status and each reason of which the languages don't say the same."""
+    wanted = header_texts()
+    lines = entries("_texts.py", wanted, package_texts()) if TEXTS.exists() else []
+    if RUST.exists():
+        said = crate_texts()
+        lines += entries("the Rust crate", {name: text for name, text in wanted.items() if name in said}, said)
+    return [line.replace("the library has", "piecepick.h has") for line in lines]
+
+
+def page() -> list[str]:
+    """A line for each status of which the page of errors has another number, or another name in Rust."""
+    named = {snake(name): name for name, _ in arms(RUST / "error.rs", r"(?m)^    (\w+) = (\d+),")}
+    rows = re.findall(r"(?m)^\| (\d+) \| `([A-Z_]+)` \| *`?(\w*)`? *\|", PAGE.read_text())
+    there = {status: (int(number), name) for number, status, name in rows}
+    wanted = {name: (number, named.get(name, "")) for name, number in header_numbers()["Status"].items() if number}
+    return [line.replace("the library has", "header and crate have") for line in entries("ERRORS.md", wanted, there)]
+
+
 def structs() -> dict[str, Fields]:
     """The structs of the crate."""
     found: dict[str, Fields] = {}
@@ -395,7 +438,9 @@ def main() -> int:
     lines = entries("piecepick.h", exported, prototypes())
     lines += entries("piecepick.h", flat(numbers()), flat(header_numbers()))
     lines += entries("piecepick.h", structs(), header_structs())
-    lines += interfaces()
+    lines += interfaces() + texts()
+    if PAGE.exists() and RUST.exists():
+        lines += page()
     also = ""
     if NATIVE.exists():
         package = Package(NATIVE)

@@ -6,6 +6,8 @@ from ctypes import POINTER, Structure, c_size_t, c_uint8, c_uint32, c_uint64, c_
 from enum import IntEnum
 from typing import Any
 
+from . import _texts
+
 ABI = 3
 VERSION_NUMBER = 30000
 
@@ -47,6 +49,11 @@ class Status(IntEnum):
     COUNT_MISMATCH = 109
     TOO_LARGE = 110
 
+    @property
+    def text(self) -> str:
+        """What it says to a person."""
+        return _texts.STATUS[self.name]
+
 
 class Kind(IntEnum):
     """What the picker answers."""
@@ -85,6 +92,11 @@ class Reason(IntEnum):
     NOT_ASKED = 10
     WRONG_DEPTH = 11
     WRONG_LEVEL = 12
+
+    @property
+    def text(self) -> str:
+        """What it says to a person."""
+        return _texts.REASON[self.name]
 
 
 class PickRule(IntEnum):

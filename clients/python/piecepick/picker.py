@@ -37,7 +37,7 @@ class PiecepickError(Exception):
     """A call that did nothing; `status` says why."""
 
     def __init__(self, call: str, status: Status) -> None:
-        super().__init__(f"{call}: {status.name.lower().replace('_', ' ')}")
+        super().__init__(f"{call}: {status.text}")
         self.call = call
         self.status = status
 

@@ -711,7 +711,7 @@ class Faults(CallCase):
             with self.assertRaises(PiecepickError) as caught:
                 made.settle(0, DIGESTS[0])
             self.assertNotIsInstance(caught.exception, ValueError)
-            self.assertEqual(str(caught.exception), "settle: not waiting")
+            self.assertEqual(str(caught.exception), "settle: the piece isn't waiting for a check: a block is lacking, or it is complete")
 
 
 if __name__ == "__main__":

@@ -126,18 +126,18 @@ impl Reason {
 impl fmt::Display for Reason {
     fn fmt(&self, formatter: &mut fmt::Formatter<'_>) -> fmt::Result {
         formatter.write_str(match self {
-            Reason::NotJoined => "the worker hasn't joined",
-            Reason::AlreadyJoined => "the worker has joined already",
-            Reason::LateBits => "a bitfield that isn't the peer's first word",
-            Reason::WrongCount => "not one for each piece",
+            Reason::NotJoined => "no peer has joined under this worker number",
+            Reason::AlreadyJoined => "a peer has joined under this worker number already",
+            Reason::LateBits => "a bitfield must be a peer's first message",
+            Reason::WrongCount => "wrong number of items: it must be one per piece",
             Reason::NoSuchPiece => "no such piece",
-            Reason::NoSuchBlock => "no such block",
-            Reason::WrongLength => "a block of another length",
-            Reason::NotWaiting => "the piece doesn't wait for a check",
-            Reason::Stale => "the bytes that were hashed are no longer those held",
-            Reason::NotAsked => "the block isn't asked of the peer",
-            Reason::WrongDepth => "a depth of 0, or beyond the deepest",
-            Reason::WrongLevel => "a level or a reach above 7, or an order from a level above 8",
+            Reason::NoSuchBlock => "no block begins there",
+            Reason::WrongLength => "wrong block length",
+            Reason::NotWaiting => "the piece isn't waiting for a check: a block is lacking, or it is complete",
+            Reason::Stale => "the bytes that were hashed aren't those that the picker holds now",
+            Reason::NotAsked => "the block isn't requested from this peer",
+            Reason::WrongDepth => "the depth must be 1 to the option deepest",
+            Reason::WrongLevel => "a level is out of its range: 0 to 7, or 0 to 8 for the order",
         })
     }
 }

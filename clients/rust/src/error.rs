@@ -36,34 +36,34 @@ macro_rules! errors {
 }
 
 errors! {
-    Worker = 3, "no such worker";
+    Worker = 3, "no such worker number";
     Piece = 4, "no such piece";
-    BitsLength = 5, "the flags haven't one bit a piece";
-    SpareBits = 6, "a bit behind those of the pieces is set";
-    Length = 7, "the buffer has another length";
+    BitsLength = 5, "wrong bitfield length: it must have one bit per piece, rounded up to bytes";
+    SpareBits = 6, "a spare bit at the end of the bitfield is set";
+    Length = 7, "wrong buffer length: it must be exactly that of the item";
     Memory = 8, "out of memory";
-    NotHad = 9, "the piece isn't had";
-    Rules = 10, "depth, deepest, askers, random, open, rush or shown is out of its range";
-    NotWaiting = 11, "the piece doesn't wait for a check";
-    NotHashed = 13, "the job wasn't hashed";
-    Place = 14, "fewer blocks than that are asked of the peer";
-    Keeps = 15, "the picker keeps something else than the call is for";
-    Stale = 17, "the bytes that were hashed are no longer those held";
-    Block = 18, "no such block of the piece";
+    NotHad = 9, "the piece isn't complete";
+    Rules = 10, "an option is out of its range: depth, deepest, askers, random, open, rush or shown";
+    NotWaiting = 11, "the piece isn't waiting for a check: a block is lacking, or it is complete";
+    NotHashed = 13, "the job wasn't hashed yet";
+    Place = 14, "fewer blocks are requested from this peer";
+    Keeps = 15, "the call isn't for what this picker keeps";
+    Stale = 17, "the bytes that were hashed aren't those that the picker holds now";
+    Block = 18, "no such block in this piece";
     NotHeld = 19, "the block isn't held";
-    Begun = 20, "the piece is begun, or had already";
+    Begun = 20, "the piece is complete, or a block of it is held or requested";
     File = 21, "no such file";
     Part = 22, "no such name on the file's path";
-    Bencode = 101, "not bencoded, or not as strictly as BEP 3 has it";
-    NotDictionary = 102, "the metainfo is no dictionary";
-    MissingKey = 103, "a key of the metainfo is missing";
-    WrongKind = 104, "a value of the metainfo, or its info, has another kind";
-    PieceLength = 105, "a piece length that isn't 1 to 2^31";
-    PiecesLength = 106, "digests that aren't 20 bytes each";
-    LengthAndFiles = 107, "both length and files";
-    NoContent = 108, "neither length nor files, or no bytes";
-    CountMismatch = 109, "another number of digests than of pieces";
-    TooLarge = 110, "too large";
+    Bencode = 101, "not valid bencode: keys must be sorted, and nothing may follow the end";
+    NotDictionary = 102, "the metainfo isn't a dictionary";
+    MissingKey = 103, "a required key is missing from the metainfo";
+    WrongKind = 104, "a value in the metainfo has the wrong type";
+    PieceLength = 105, "the piece length isn't 1 to 2^31 bytes";
+    PiecesLength = 106, "the piece hashes aren't 20 bytes each";
+    LengthAndFiles = 107, "the metainfo has both length and files";
+    NoContent = 108, "the torrent has no content: neither length nor files, or not one byte in them";
+    CountMismatch = 109, "the number of piece hashes doesn't match the length of the content";
+    TooLarge = 110, "the torrent is too large: at most 2^63 - 1 bytes and 2^32 - 1 pieces";
 }
 
 impl fmt::Display for Error {
