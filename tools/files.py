@@ -1,12 +1,12 @@
 #!/usr/bin/env python3
-"""Lists the source files of each crate with the sentence that heads them, as `docs/FILES.md`.
+"""Prints the source files of each crate with the sentence that heads them, lowest crate first.
 
-    tools/files.py          writes the page
-    tools/files.py --check  says whether the page is what it would write
+    tools/files.py [CRATE ..]   of these crates, or of all
+    tools/files.py --check      prints nothing, and says which files have no head
 
 A file is listed by what its first comment says, up to the end of that sentence; of a long one, up to its first colon or semicolon. Files
 that have one place for each function (`Answers.antt`, `Invariants.antt`, `Proof.antt`) and lists of files (`Lib.antt`) are left out, and so
-are the modules of tests. The status is 1 where the page is another, or where a file has no head.
+are the modules of tests. The status is 1 where a file has no head.
 """
 
 from __future__ import annotations
@@ -17,15 +17,8 @@ import sys
 from pathlib import Path
 
 ROOT = Path(__file__).resolve().parent.parent
-PAGE = ROOT / "docs" / "FILES.md"
 LEFT_OUT = {"Answers.antt", "Invariants.antt", "Proof.antt", "Lib.antt"}
 FOLDERS = {"src": "Code", "specs": "Definitions", "proofs": "Lemmas"}
-HEAD = """# Files
-
-Each source file, with the sentence that heads it. `tools/files.py` makes this page. [ARCHITECTURE](ARCHITECTURE.md) says what each crate
-keeps, and where things go. The answers to a function's goals aren't listed: they stand in `proofs/`, in a folder of the function's name.
-Neither are the modules of tests, of which [TESTS](TESTS.md) tells.
-"""
 
 
 def head_of(path: Path) -> str:
@@ -54,11 +47,11 @@ def files_of(crate: str, folder: str) -> list[Path]:
     return sorted(path for path in paths if path.name not in LEFT_OUT and "tests" not in path.parts and path.name != "tests.rt")
 
 
-def page() -> tuple[str, list[str]]:
-    """The page, and the files that have no head."""
-    lines = [HEAD]
+def listing(names: list[str]) -> tuple[str, list[str]]:
+    """What these crates have, and the files that have no head."""
+    lines: list[str] = []
     bare: list[str] = []
-    for crate in crates():
+    for crate in names:
         lines.append(f"## {crate}\n")
         for folder, title in FOLDERS.items():
             listed = []
@@ -75,15 +68,15 @@ def page() -> tuple[str, list[str]]:
 
 
 def main() -> None:
-    text, bare = page()
+    words = sys.argv[1:]
+    unknown = [word for word in words if word != "--check" and word not in crates()]
+    if unknown:
+        sys.exit(f"files: no such crate: {unknown[0]}")
+    text, bare = listing([word for word in words if word != "--check"] or crates())
     for path in bare:
         print(f"files: {path} has no head", file=sys.stderr)
-    if "--check" in sys.argv[1:]:
-        same = PAGE.exists() and PAGE.read_text(encoding="utf-8") == text
-        if not same:
-            print("files: docs/FILES.md is old; run tools/files.py", file=sys.stderr)
-        sys.exit(0 if same and not bare else 1)
-    PAGE.write_text(text, encoding="utf-8")
+    if "--check" not in words:
+        print(text, end="")
     sys.exit(1 if bare else 0)
 
 
