@@ -1,7 +1,8 @@
 #!/usr/bin/env python3
-"""Tells how long the sentences of the pages are: the mean and the longest of each page, and the longest of all.
+"""Tells how many words the pages have, and how long their sentences are: the mean and the longest of each page, and the longest of all. It
+counts sentences that begin with a word for which the reader has to look back, such as "It" or "That". With --back it shows them.
 
-    tools/prose.py [--worst N] [--limit WORDS] [FILE ..]
+    tools/prose.py [--worst N] [--limit WORDS] [--back] [FILE ..]
 
 Goes over README.md, docs, clients and each crate's README where no file is given. Code, drawings, links' targets and the lines of a table are
 no sentences, but each cell of a table is read as one. With a limit the status is 1 where a sentence is longer.
@@ -17,6 +18,7 @@ from collections.abc import Iterator
 from pathlib import Path
 
 ROOT = Path(__file__).resolve().parent.parent
+BACK = re.compile(r"(?:It|Its|That|This|Those|These|Such|So (?:it|does|do|is|are|has|have)|Neither|Both|Likewise)\b(?! (?:is|was) (?:why|how))")
 END = re.compile(r"(?<=[.!?:;])\s+(?=[A-Z0-9`*\"(\[]|$)")
 
 
@@ -59,10 +61,18 @@ def pages(names: list[str]) -> list[Path]:
     return [ROOT / name for name in listed]
 
 
+def told_of(found: list[tuple[int, str]]) -> str:
+    """How many words and sentences these are, how long on average, and how many of them lean on the one before."""
+    words = sum(count for count, _ in found)
+    back = sum(BACK.match(piece) is not None for _, piece in found)
+    return f"{words} words, {len(found)} sentences, mean {words / len(found):.1f}, {back} lean back"
+
+
 def main() -> None:
     words = argparse.ArgumentParser(description=__doc__.split("\n")[0])
     words.add_argument("--worst", type=int, default=10, help="so many of the longest sentences are shown")
     words.add_argument("--limit", type=int, help="a sentence of more words is too long")
+    words.add_argument("--back", action="store_true", help="sentences that begin with a word such as It are shown")
     words.add_argument("files", nargs="*")
     options = words.parse_args()
     everything: list[tuple[int, Path, str]] = []
@@ -70,13 +80,17 @@ def main() -> None:
         found = list(sentences(page.read_text(encoding="utf-8")))
         if not found:
             continue
-        lengths = [count for count, _ in found]
         name = page.relative_to(ROOT) if page.is_relative_to(ROOT) else page
-        print(f"{name}: {len(found)} sentences, mean {sum(lengths) / len(lengths):.1f}, longest {max(lengths)}")
+        print(f"{name}: {told_of(found)}, longest {max(count for count, _ in found)}")
         everything += [(count, name, piece) for count, piece in found]
     lengths = [count for count, _, _ in everything]
     over = ", ".join(f"over {limit}: {sum(count > limit for count in lengths)}" for limit in (30, 40))
-    print(f"all: {len(lengths)} sentences, mean {sum(lengths) / len(lengths):.1f}, {over}")
+    print(f"all: {told_of([(count, piece) for count, _, piece in everything])}, {over}")
+    if options.back:
+        for _, name, piece in everything:
+            if BACK.match(piece):
+                print(f"{name}: {piece[:150]}")
+        return
     for count, name, piece in sorted(everything, key=lambda one: -one[0])[: options.worst]:
         print(f"{count} {name}: {piece[:150]}")
     if options.limit and max(lengths) > options.limit:
