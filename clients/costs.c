@@ -34,7 +34,7 @@ static double now(void) {
 static void digest_of_zeros(void) {
     uint8_t *zeros = calloc(1, BLOCK * BLOCKS), four[80];
     if (!zeros) exit(1);
-    well(piecepick_hash4(zeros, BLOCK * BLOCKS, zeros, 0, zeros, 0, zeros, 0, four, sizeof four));
+    well(piecepick_hash_four(zeros, BLOCK * BLOCKS, zeros, 0, zeros, 0, zeros, 0, four, sizeof four));
     memcpy(digest.bytes, four, sizeof digest.bytes);
     free(zeros);
 }

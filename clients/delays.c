@@ -260,7 +260,7 @@ static void try_endgames(void)
 static void put_digest(uint32_t piece, size_t length)
 {
     uint8_t four[80];
-    check(piecepick_hash4(zeros, length, zeros, 0, zeros, 0, zeros, 0, four, sizeof four));
+    check(piecepick_hash_four(zeros, length, zeros, 0, zeros, 0, zeros, 0, four, sizeof four));
     memcpy(digests + 20 * piece, four, 20);
 }
 

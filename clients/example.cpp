@@ -66,7 +66,7 @@ static void send_all(Picker &picker, std::uint32_t worker, Line &line)
 /* A piece is full: its bytes are written where they belong, if they have its hash. A client with threads hashes outside its lock. */
 static void settle(Picker &picker, std::uint32_t piece, std::uint8_t *place)
 {
-    Job job = picker.job(piece);
+    Job job = picker.job_take(piece);
     job.hash();
     if (picker.settle(job).kind == PIECEPICK_K_FAILED) throw std::runtime_error("a piece has another hash");
     job.read({place, picker.piece_length(piece)});

@@ -305,9 +305,12 @@ PIECEPICK_MUST piecepick_status piecepick_file_parts(piecepick_picker *picker, u
 PIECEPICK_MUST piecepick_status piecepick_file_part_length(piecepick_picker *picker, uint64_t file, uint64_t part, uint64_t *number);
 PIECEPICK_MUST piecepick_status piecepick_file_part(piecepick_picker *picker, uint64_t file, uint64_t part, uint8_t *room, size_t room_len);
 
+/* The SHA-1 of one message, for a client that hashes. It needs no picker, takes no memory, and may be called by several threads at once. So is
+   the next one. */
+void piecepick_hash(const uint8_t *message, size_t message_len, piecepick_digest *digest);
 /* The SHA-1 of each of four messages, one digest behind the other, into a room of 80 bytes (LENGTH). Messages of one length are hashed side by
-   side, at more than twice the speed. It needs no picker, takes no memory, and may be called by several threads at once. */
-PIECEPICK_MUST piecepick_status piecepick_hash4(const uint8_t *first, size_t first_len, const uint8_t *second, size_t second_len,
+   side, at more than twice the speed. */
+PIECEPICK_MUST piecepick_status piecepick_hash_four(const uint8_t *first, size_t first_len, const uint8_t *second, size_t second_len,
                                                 const uint8_t *third, size_t third_len, const uint8_t *fourth, size_t fourth_len,
                                                 uint8_t *digests, size_t digests_len);
 

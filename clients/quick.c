@@ -33,11 +33,8 @@ static void write_block(uint32_t piece, uint32_t begin, const uint8_t *bytes, ui
 /* The SHA-1 of a piece as it was written. */
 static piecepick_digest digest_of(uint32_t piece)
 {
-    const uint8_t *bytes = file + piece * PIECE;
-    uint8_t four[80];
     piecepick_digest digest;
-    must(piecepick_hash4(bytes, PIECE, bytes, 0, bytes, 0, bytes, 0, four, sizeof four));
-    memcpy(digest.bytes, four, sizeof digest.bytes);
+    piecepick_hash(file + piece * PIECE, PIECE, &digest);
     return digest;
 }
 

@@ -56,7 +56,7 @@ static double now(void) {
 static void digest_of_zeros(void) {
     uint8_t *zeros = calloc(1, PIECE), four[80];
     if (!zeros) exit(1);
-    well(piecepick_hash4(zeros, PIECE, zeros, 0, zeros, 0, zeros, 0, four, sizeof four));
+    well(piecepick_hash_four(zeros, PIECE, zeros, 0, zeros, 0, zeros, 0, four, sizeof four));
     memcpy(digest.bytes, four, sizeof digest.bytes);
     free(zeros);
 }

@@ -153,10 +153,8 @@ static const uint8_t *bytes_of(uint32_t piece) { return content + (size_t)piece 
 
 static piecepick_digest sha1(const uint8_t *bytes, size_t length)
 {
-    uint8_t four[80];
     piecepick_digest digest;
-    EQUAL(piecepick_hash4(bytes, length, bytes, 0, bytes, 0, bytes, 0, four, sizeof four), PIECEPICK_OK);
-    memcpy(digest.bytes, four, sizeof digest.bytes);
+    piecepick_hash(bytes, length, &digest);
     return digest;
 }
 
@@ -799,8 +797,8 @@ static void try_statuses(uint32_t keeps)
     NO_NUMBER(piecepick_askers(picker, 1, MORE, &number), PIECEPICK_E_BLOCK);
     NO_ANSWER(piecepick_verdict(picker, 1, 0, &answer), is_nothing ? PIECEPICK_E_NOT_WAITING : PIECEPICK_E_KEEPS);
     NO_ANSWER(piecepick_verdict(picker, 1, 1, &answer), is_nothing ? PIECEPICK_E_NOT_WAITING : PIECEPICK_E_KEEPS);
-    EQUAL(piecepick_hash4(content, 0, content, 0, content, 0, content, 0, room, 79), PIECEPICK_E_LENGTH);
-    EQUAL(piecepick_hash4(content, 0, content, 0, content, 0, content, 0, room, 81), PIECEPICK_E_LENGTH);
+    EQUAL(piecepick_hash_four(content, 0, content, 0, content, 0, content, 0, room, 79), PIECEPICK_E_LENGTH);
+    EQUAL(piecepick_hash_four(content, 0, content, 0, content, 0, content, 0, room, 81), PIECEPICK_E_LENGTH);
     /* Refusals change nothing either. */
     REFUSED(piecepick_join(picker, 0, &answer), PIECEPICK_R_ALREADY_JOINED);
     REFUSED(piecepick_bits(picker, 0, all, flags_len, &answer), PIECEPICK_R_LATE_BITS);
@@ -3171,7 +3169,7 @@ static void settle_shared(uint32_t piece)
     uint32_t length = length_of(piece);
     if (shared_keeps == PIECEPICK_KEEPS_NOTHING) {
         piecepick_digest digest;
-        if (piecepick_hash4(bytes, length, bytes, length, bytes, length, bytes, length, four, sizeof four)) fail(__LINE__, "hash4", 1, 0);
+        if (piecepick_hash_four(bytes, length, bytes, length, bytes, length, bytes, length, four, sizeof four)) fail(__LINE__, "hash_four", 1, 0);
         memcpy(digest.bytes, four + 40, 20);
         LOCKED(piecepick_settle(shared, piece, &digest, &answer));
     } else {
@@ -3240,7 +3238,7 @@ static void hash_pieces(uint32_t piece)
 {
     uint8_t found[81];
     memset(found, 7, sizeof found);
-    EQUAL(piecepick_hash4(bytes_of(piece), length_of(piece), bytes_of(piece + 1), length_of(piece + 1), bytes_of(piece + 2),
+    EQUAL(piecepick_hash_four(bytes_of(piece), length_of(piece), bytes_of(piece + 1), length_of(piece + 1), bytes_of(piece + 2),
                           length_of(piece + 2), bytes_of(piece + 3), length_of(piece + 3), found, 80), PIECEPICK_OK);
     EQUAL(memcmp(found, digests + 20 * piece, 80), 0);
     EQUAL(found[80], 7);
@@ -3255,16 +3253,18 @@ static void try_hashing(void)
         uint8_t found[80];
         const char *said[4];
         for (size_t at = 0; at < 4; at++) said[at] = KNOWN[(turn + at) % 4].message;
-        EQUAL(piecepick_hash4((const uint8_t *)said[0], strlen(said[0]), (const uint8_t *)said[1], strlen(said[1]),
+        EQUAL(piecepick_hash_four((const uint8_t *)said[0], strlen(said[0]), (const uint8_t *)said[1], strlen(said[1]),
                               (const uint8_t *)said[2], strlen(said[2]), (const uint8_t *)said[3], strlen(said[3]), found, 80),
               PIECEPICK_OK);
+        piecepick_digest alone = sha1((const uint8_t *)said[0], strlen(said[0]));
         for (size_t at = 0; at < 80; at++) {
             unsigned byte = 0;
             EQUAL(sscanf(KNOWN[(turn + at / 20) % 4].digest + 2 * (at % 20), "%2x", &byte), 1);
             EQUAL(found[at], byte);
+            if (at < 20) EQUAL(alone.bytes[at], byte);
         }
     }
-    told("messages hashed four at a time");
+    told("messages hashed one and four at a time");
 }
 
 /* ---- */

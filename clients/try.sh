@@ -115,7 +115,7 @@ template <class Call> static bool throws(piecepick_status status, Call call)
 }
 int main()
 {
-    const Digest digest = hash4(std::string("0"), std::string(), std::string(), std::string())[0];
+    const Digest digest = hash(std::string("0"));
     Options options;
     options.keeps = PIECEPICK_KEEPS_JOURNAL;
     auto open = [&] { return Picker(16384, 1, {digest.bytes, 20}, options); };
@@ -153,7 +153,7 @@ int main()
     well = well && bare.sender(0, 0) == 0 && file == "0";
     well = well && bare.askers(0, 0) == 0 && throws(PIECEPICK_E_BLOCK, [&] { (void)bare.askers(0, 9); });
     well = well && throws(PIECEPICK_E_PIECE, [&] { (void)bare.verdict(9, true); });
-    well = well && bare.settle(0, hash4(file, std::string(), std::string(), std::string())[0]).kind == PIECEPICK_K_HAD;
+    well = well && bare.settle(0, hash(file)).kind == PIECEPICK_K_HAD;
     /* Of three pieces one is nowhere. A second peer is asked for one block in endgame, or for none where endgame waits for all pieces. */
     const std::uint8_t digests[60] = {}, two[1] = {0xc0};
     for (std::uint32_t shown = 0; shown < 2; shown++) {

@@ -43,7 +43,7 @@ def settled(picker: Picker, model: Model, keeps: Keeps, piece: int) -> Answer:
     if keeps is Keeps.NOTHING:
         blocks = model.blocks[piece] if piece < model.pieces else []
         return picker.settle(piece, hashlib.sha1(b"".join(model.held.get(block, b"") for block in blocks)).digest())
-    with picker.job(piece) as job:
+    with picker.job_take(piece) as job:
         job.hash()
         return job.settle()
 
@@ -105,7 +105,7 @@ def play(seed: str, index: int, with_open: bool = False) -> Played:
     digests = b"".join(script.torrent.hashes)
     replies: Counter[str] = Counter()
     wrong = []
-    with Picker.of_parts(
+    with Picker.open_parts(
         script.torrent.piece_length, script.torrent.total, digests, keeps=keeps, workers=workers, shown=rules.shown, **numbers
     ) as picker:
         for line in script.lines[2:]:

@@ -14,7 +14,11 @@ has changed nothing. A call that a rule refuses has the answer REFUSED: that is 
 
 from ._native import Keeps, Kind, PickRule, Reason, Status
 from .depth import DepthByRate
-from .picker import Answer, File, InputFault, Job, MemoryFault, Picker, PiecepickError, hash_four, version
+from .picker import Answer, File, InputFault, Job, MemoryFault, Picker, PiecepickError
+
+# It isn't in __all__, so that `import *` leaves Python's own `hash` alone.
+from .picker import hash as hash  # noqa: F401
+from .picker import hash_four, version
 
 __version__ = "3.0.0"
 

@@ -169,11 +169,18 @@ def version() -> str:
     return f"{number // 10000}.{number // 100 % 100}.{number % 100}"
 
 
+def hash(message: BytesLike) -> bytes:
+    """The SHA-1 of a message, as hashlib has it too."""
+    digest = _native.Digest()
+    LIBRARY.piecepick_hash(*lend(message), byref(digest))
+    return bytes(digest)
+
+
 def hash_four(first: BytesLike, second: BytesLike, third: BytesLike, fourth: BytesLike) -> list[bytes]:
     """The SHA-1 of each of four messages. Four of one length are hashed side by side. It takes no lock."""
     lent = [part for message in (first, second, third, fourth) for part in lend(message)]
     digests = (c_uint8 * (4 * _DIGEST_LENGTH))()
-    _check(LIBRARY.piecepick_hash4, *lent, digests, len(digests))
+    _check(LIBRARY.piecepick_hash_four, *lent, digests, len(digests))
     return [bytes(digests[place : place + _DIGEST_LENGTH]) for place in range(0, len(digests), _DIGEST_LENGTH)]
 
 
@@ -228,7 +235,7 @@ class Picker:
         self._open(LIBRARY.piecepick_open, data, length, byref(options))
 
     @classmethod
-    def of_parts(
+    def open_parts(
         cls,
         piece_length: int,
         total: int,
@@ -478,7 +485,7 @@ class Picker:
         lent, length = lend(data)
         return self._told(LIBRARY.piecepick_restore, _u32(worker), _u32(piece), lent, length, byref(_digest(digest)))
 
-    def job(self, piece: int) -> Job:
+    def job_take(self, piece: int) -> Job:
         """Keeps.BEGUN and Keeps.JOURNAL: the check of a full piece, to be hashed without the lock."""
         return Job(self, piece)
 

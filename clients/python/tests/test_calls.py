@@ -9,6 +9,7 @@ from typing import Any
 
 from support import ALL, BLOCK, CONTENT, DIGESTS, INFO, METAINFO, PARTS, PIECE, PIECES, SEVERAL, bring, picker, with_peer
 
+import piecepick
 from piecepick import Answer, File, InputFault, Keeps, Kind, Picker, PickRule, PiecepickError, Reason, Status, hash_four, version
 
 STORED = [Kind.STORED, Kind.COMPLETED]
@@ -58,16 +59,16 @@ class Opening(CallCase):
             paths = [(b"folder", b"one"), (b"folder", b"", b"..", b"a/b\0"), (b"folder", b"deep", b"two")]
             self.assertEqual(made.files, [File(length, path) for length, path in zip((5, 0, 11), paths)])
             self.assertEqual(made.total, 16)
-        with Picker.of_parts(PIECE, len(CONTENT), b"".join(DIGESTS)) as made:
+        with Picker.open_parts(PIECE, len(CONTENT), b"".join(DIGESTS)) as made:
             self.assertEqual(made.files, [])
 
     def test_parts(self) -> None:
-        with Picker.of_parts(PIECE, len(CONTENT), b"".join(DIGESTS), workers=2) as made:
+        with Picker.open_parts(PIECE, len(CONTENT), b"".join(DIGESTS), workers=2) as made:
             self.assertEqual((made.pieces, made.workers, made.name, made.infohash), (PIECES, 2, b"", bytes(20)))
-        self.assert_status(Status.PIECES_LENGTH, Picker.of_parts, PIECE, len(CONTENT), bytes(21))
-        self.assert_status(Status.COUNT_MISMATCH, Picker.of_parts, PIECE, len(CONTENT), bytes(20))
-        self.assert_status(Status.PIECE_LENGTH, Picker.of_parts, 0, 1, bytes(20))
-        self.assert_status(Status.NO_CONTENT, Picker.of_parts, 1, 0, b"")
+        self.assert_status(Status.PIECES_LENGTH, Picker.open_parts, PIECE, len(CONTENT), bytes(21))
+        self.assert_status(Status.COUNT_MISMATCH, Picker.open_parts, PIECE, len(CONTENT), bytes(20))
+        self.assert_status(Status.PIECE_LENGTH, Picker.open_parts, 0, 1, bytes(20))
+        self.assert_status(Status.NO_CONTENT, Picker.open_parts, 1, 0, b"")
 
     def test_no_torrent(self) -> None:
         self.assert_status(Status.BENCODE, Picker, b"")
@@ -193,7 +194,7 @@ class Peers(CallCase):
             self.assertEqual((made.availability(2), made.availability(4)), (1, 0))
 
     def test_usual_depth(self) -> None:
-        with Picker.of_parts(20 * BLOCK, 20 * BLOCK, bytes(20)) as made:
+        with Picker.open_parts(20 * BLOCK, 20 * BLOCK, bytes(20)) as made:
             made.join(0)
             made.have(0, 0)
             made.unchoke(0)
@@ -343,7 +344,7 @@ class Alone(CallCase):
     """Two peers, and two pieces of two blocks, which both have. The second peer works alone, and has begun piece 0."""
 
     def setUp(self) -> None:
-        self.made = Picker.of_parts(PIECE, 2 * PIECE, bytes(40), workers=3)
+        self.made = Picker.open_parts(PIECE, 2 * PIECE, bytes(40), workers=3)
         self.addCleanup(self.made.close)
         for worker in range(2):
             self.come(worker)
@@ -417,7 +418,7 @@ class Endgame(unittest.TestCase):
 
     def begin(self, flags: bytes, **choices: Any) -> Picker:
         """Two peers that show these pieces, and have unchoked us."""
-        made = Picker.of_parts(BLOCK, 40 * BLOCK, bytes(800), workers=2, depth=64, **choices)
+        made = Picker.open_parts(BLOCK, 40 * BLOCK, bytes(800), workers=2, depth=64, **choices)
         self.addCleanup(made.close)
         for worker in range(2):
             made.join(worker)
@@ -469,7 +470,7 @@ class Pieces(CallCase):
     def test_losses(self) -> None:
         """A lost piece is lacking, and a discarded block too; of a complete piece none is discarded, and a journal loses nothing."""
         digest = hashlib.sha1(bytes(2 * BLOCK)).digest()
-        with Picker.of_parts(2 * BLOCK, 4 * BLOCK, 2 * digest, workers=1, keeps=Keeps.NOTHING) as made:
+        with Picker.open_parts(2 * BLOCK, 4 * BLOCK, 2 * digest, workers=1, keeps=Keeps.NOTHING) as made:
             made.join(0)
             for begin in (0, BLOCK):
                 made.arrived(0, 0, begin, bytes(BLOCK))
@@ -611,7 +612,7 @@ class Nothing(CallCase):
     def test_what_it_lacks(self) -> None:
         with with_peer() as made:
             bring(made, 1, PARTS[1])
-            self.assert_status(Status.KEEPS, made.job, 1)
+            self.assert_status(Status.KEEPS, made.job_take, 1)
             self.assert_status(Status.KEEPS, made.settle_now, 1)
             self.assert_status(Status.KEEPS, made.read, 1)
             self.assert_status(Status.KEEPS, made.audit)
@@ -626,7 +627,7 @@ class Begun(CallCase):
             while (answer := made.next(0)).kind is Kind.REQUEST:
                 piece, begin, length = answer.block
                 if made.arrived(0, piece, begin, memoryview(PARTS[piece])[begin : begin + length]).kind is Kind.COMPLETED:
-                    with made.job(piece) as job:
+                    with made.job_take(piece) as job:
                         job.hash()
                         self.assertEqual(job.settle().kind, Kind.HAD)
                         got[piece] = bytes(job.read())
@@ -636,10 +637,10 @@ class Begun(CallCase):
 
     def test_job(self) -> None:
         with with_peer(Keeps.BEGUN) as made:
-            self.assert_status(Status.NOT_WAITING, made.job, 1)
-            self.assert_status(Status.PIECE, made.job, PIECES)
+            self.assert_status(Status.NOT_WAITING, made.job_take, 1)
+            self.assert_status(Status.PIECE, made.job_take, PIECES)
             bring(made, 1, PARTS[1])
-            job = made.job(1)
+            job = made.job_take(1)
             self.assertEqual((job.piece, job.length), (1, PIECE))
             self.assert_status(Status.NOT_HASHED, job.settle)
             self.assertEqual(job.read(), PARTS[1])
@@ -654,7 +655,7 @@ class Begun(CallCase):
     def test_stale(self) -> None:
         with with_peer(Keeps.BEGUN) as made:
             bring(made, 0, PARTS[1])
-            first, second = made.job(0), made.job(0)
+            first, second = made.job_take(0), made.job_take(0)
             for job in (first, second):
                 job.hash()
             self.assertEqual(first.settle().kind, Kind.FAILED)
@@ -687,18 +688,21 @@ class Journal(CallCase):
     def test_job(self) -> None:
         with with_peer(Keeps.JOURNAL) as made:
             bring(made, 6, PARTS[5][: len(PARTS[6])])
-            with made.job(6) as job:
+            with made.job_take(6) as job:
                 job.hash()
                 self.assertEqual(job.settle().kind, Kind.FAILED)
             made.audit()
 
 
 class Hashing(CallCase):
-    """Four messages at once."""
+    """Messages one by one, and four at once."""
 
-    def test_four(self) -> None:
+    def test_hashing(self) -> None:
         for messages in (PARTS[:4], PARTS[3:], [b"", b"a", b"abc", bytes(1000)]):
-            self.assertEqual(hash_four(*messages), [hashlib.sha1(message).digest() for message in messages])
+            wanted = [hashlib.sha1(message).digest() for message in messages]
+            self.assertEqual(hash_four(*messages), wanted)
+            self.assertEqual([piecepick.hash(message) for message in messages], wanted)
+        self.assertRaises(TypeError, piecepick.hash, "text")
         self.assertRaises(TypeError, hash_four, b"", b"", b"", "text")
 
 

@@ -40,7 +40,7 @@ class Closed(unittest.TestCase):
     def test_job(self) -> None:
         with with_peer(Keeps.BEGUN) as made:
             bring(made, 0, PARTS[0])
-            job = made.job(0)
+            job = made.job_take(0)
             job.close()
             job.close()
             for call in (job.hash, job.settle, job.read):
@@ -51,7 +51,7 @@ class Closed(unittest.TestCase):
     def test_copies(self) -> None:
         with with_peer(Keeps.BEGUN) as made:
             bring(made, 0, PARTS[0])
-            for thing in (made, made.job(0)):
+            for thing in (made, made.job_take(0)):
                 self.assertRaises(TypeError, copy.copy, thing)
                 self.assertRaises(TypeError, pickle.dumps, thing)
 
@@ -76,7 +76,7 @@ class Numbers(unittest.TestCase):
                 self.assertRaises(ValueError, lambda choice: Picker(METAINFO, workers=choice), number)
             for word in (-1, 2**64):
                 self.assertRaises(ValueError, made.next, 0, word)
-                self.assertRaises(ValueError, Picker.of_parts, PIECE, word, DIGESTS[0])
+                self.assertRaises(ValueError, Picker.open_parts, PIECE, word, DIGESTS[0])
             self.assertEqual(made.next(0, 2**64 - 1).kind, Kind.REQUEST)
 
     def test_no_numbers(self) -> None:
@@ -102,7 +102,7 @@ class Buffers(unittest.TestCase):
                         self.assertEqual(made.arrived(0, 0, 0, data).kind, Kind.STORED)
                         bring(made, 1, PARTS[1])
                         made.arrived(0, 0, BLOCK, PARTS[0][BLOCK:])
-                        self.assertEqual(made.job(0).read(), PARTS[0])
+                        self.assertEqual(made.job_take(0).read(), PARTS[0])
 
     def test_none_is_kept(self) -> None:
         block = bytearray(PARTS[0][:BLOCK])
@@ -110,7 +110,7 @@ class Buffers(unittest.TestCase):
             made.arrived(0, 0, 0, block)
             block.clear()
             made.arrived(0, 0, BLOCK, PARTS[0][BLOCK:])
-            self.assertEqual(made.job(0).read(), PARTS[0])
+            self.assertEqual(made.job_take(0).read(), PARTS[0])
 
     def test_no_bytes(self) -> None:
         with with_peer() as made:
@@ -138,7 +138,7 @@ class Forgotten(unittest.TestCase):
         made = with_peer(Keeps.BEGUN)
         for piece in range(3):
             bring(made, piece, PARTS[piece])
-        made.job(0).hash()
+        made.job_take(0).hash()
 
     def test_memory(self) -> None:
         for _ in range(100):
@@ -153,7 +153,7 @@ class Forgotten(unittest.TestCase):
     def test_job_behind_its_picker(self) -> None:
         made = with_peer(Keeps.BEGUN)
         bring(made, 0, PARTS[0])
-        job = made.job(0)
+        job = made.job_take(0)
         made.close()
         del made
         job.hash()
@@ -174,7 +174,7 @@ class Threads(unittest.TestCase):
             def work(piece: int) -> None:
                 try:
                     bring(made, piece, PARTS[piece])
-                    with made.job(piece) as job:
+                    with made.job_take(piece) as job:
                         job.hash()
                         self.assertIs(job.settle().kind, Kind.HAD)
                 except Exception as error:

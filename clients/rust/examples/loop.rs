@@ -5,7 +5,7 @@
 //! It downloads the content of the torrent from the peers, compares it, and prints how many pieces are had. Where no files are named, it
 //! makes some content.
 
-use piecepick::{hash4, Answer, Block, Error, Keeps, Options, Picker};
+use piecepick::{hash_four, Answer, Block, Error, Keeps, Options, Picker};
 use std::env;
 use std::fs;
 use std::process::ExitCode;
@@ -31,7 +31,7 @@ impl Peer<'_> {
 /// Some bytes, and the picker for a torrent of them.
 fn made(options: Options) -> Result<(Picker, Vec<u8>), Error> {
     let content: Vec<u8> = (0..9 * PIECE_LENGTH + 12_345).map(|at| (at * at % 251) as u8).collect();
-    let digests: Vec<_> = content.chunks(PIECE_LENGTH).map(|piece| hash4([piece, &[], &[], &[]])[0]).collect();
+    let digests: Vec<_> = content.chunks(PIECE_LENGTH).map(|piece| hash_four([piece, &[], &[], &[]])[0]).collect();
     let picker = Picker::open_parts(PIECE_LENGTH as u32, content.len() as u64, &digests, options)?;
     Ok((picker, content))
 }
@@ -59,9 +59,9 @@ fn ask(picker: &mut Picker, peer: &mut Peer, word: &mut u64) -> Result<(), Error
 
 /// Checks a full piece. A client with threads has it hashed in another one.
 fn check(picker: &mut Picker, piece: u32, file: &mut [u8], begin: usize) -> Result<(), Error> {
-    let mut job = picker.take_job(piece)?;
+    let mut job = picker.job_take(piece)?;
     job.hash()?;
-    if picker.settle_job(&job)? == Answer::Had {
+    if picker.job_settle(&job)? == Answer::Had {
         job.read_into(&mut file[begin..begin + job.length() as usize])?;
     }
     Ok(())

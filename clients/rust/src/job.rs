@@ -5,8 +5,8 @@ use crate::sys;
 use std::fmt;
 use std::ptr::NonNull;
 
-/// The check of one full piece, from [`Picker::take_job`](crate::Picker::take_job): hash it in any thread, then tell the verdict by
-/// [`Picker::settle_job`](crate::Picker::settle_job). It may be dropped at any time, before or after its picker.
+/// The check of one full piece, from [`Picker::job_take`](crate::Picker::job_take): hash it in any thread, then tell the verdict by
+/// [`Picker::job_settle`](crate::Picker::job_settle). It may be dropped at any time, before or after its picker.
 pub struct Job {
     pub(crate) pointer: NonNull<sys::piecepick_job>,
     piece: u32,

@@ -53,7 +53,7 @@ pub use answer::{Answer, Block, Kind, PickRule, Reason};
 pub use depth::DepthByRate;
 pub use error::Error;
 pub use file::File;
-pub use hash::{hash4, Digest};
+pub use hash::{hash, hash_four, Digest};
 pub use job::Job;
 pub use options::{Keeps, Options};
 pub use picker::Picker;

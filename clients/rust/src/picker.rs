@@ -241,7 +241,7 @@ impl Picker {
 
     /// [`Keeps::Begun`](crate::Keeps::Begun) and [`Keeps::Journal`](crate::Keeps::Journal): the check of a full piece, to be hashed away
     /// from its picker.
-    pub fn take_job(&mut self, piece: u32) -> Result<Job, Error> {
+    pub fn job_take(&mut self, piece: u32) -> Result<Job, Error> {
         let length = self.piece_length(piece)?;
         let mut pointer = null_mut();
         check(unsafe { sys::piecepick_job_take(self.pointer.as_ptr(), piece, &mut pointer) })?;
@@ -250,7 +250,7 @@ impl Picker {
     }
 
     /// Tells the verdict of a job that was hashed: [`Answer::Had`] or [`Answer::Failed`]. Its bytes can be read still.
-    pub fn settle_job(&mut self, job: &Job) -> Result<Answer, Error> {
+    pub fn job_settle(&mut self, job: &Job) -> Result<Answer, Error> {
         let job = job.pointer.as_ptr();
         self.answer(|picker, answer| unsafe { sys::piecepick_job_settle(picker, job, answer) })
     }

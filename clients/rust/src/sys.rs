@@ -202,7 +202,8 @@ extern "C" {
     pub fn piecepick_file_part(picker: *mut piecepick_picker, file: u64, part: u64, room: *mut u8, room_len: usize) -> piecepick_status;
     pub fn piecepick_infohash(picker: *mut piecepick_picker, digest: *mut piecepick_digest) -> piecepick_status;
     pub fn piecepick_piece_hash(picker: *mut piecepick_picker, piece: u32, digest: *mut piecepick_digest) -> piecepick_status;
-    pub fn piecepick_hash4(
+    pub fn piecepick_hash(message: *const u8, message_len: usize, digest: *mut piecepick_digest);
+    pub fn piecepick_hash_four(
         first: *const u8,
         first_len: usize,
         second: *const u8,

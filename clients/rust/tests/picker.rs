@@ -1,6 +1,6 @@
 //! Each call, at each kind of picker, by a torrent of seven pieces.
 
-use piecepick::{hash4, sys, Answer, Block, Digest, Error, File, Job, Keeps, Kind, Options, PickRule, Picker, Reason};
+use piecepick::{hash, hash_four, sys, Answer, Block, Digest, Error, File, Job, Keeps, Kind, Options, PickRule, Picker, Reason};
 use std::mem::size_of;
 use std::sync::Mutex;
 use std::thread;
@@ -20,7 +20,7 @@ fn piece(content: &[u8], piece: u32) -> &[u8] {
 }
 
 fn sha1(bytes: &[u8]) -> Digest {
-    hash4([bytes, b"", b"", b""])[0]
+    hash(bytes)
 }
 
 fn digests(content: &[u8]) -> Vec<Digest> {
@@ -618,7 +618,7 @@ fn the_caller_hashes_what_it_keeps() {
     assert_eq!(picker.verdict(2, false), Ok(Answer::Failed));
     bring(&mut picker, 2, piece(&content, 2));
     assert_eq!((picker.verdict(2, true), picker.is_had(2)), (Ok(Answer::Had), Ok(true)));
-    assert_eq!(picker.take_job(1).map(|_| ()), Err(Error::Keeps));
+    assert_eq!(picker.job_take(1).map(|_| ()), Err(Error::Keeps));
     assert_eq!(picker.settle_now(1), Err(Error::Keeps));
     assert_eq!(picker.read(1), Err(Error::Keeps));
     assert_eq!(picker.audit(), Err(Error::Keeps));
@@ -678,13 +678,13 @@ fn what_a_disk_has_is_restored() {
 fn a_job_hashes_away_from_its_picker() {
     let content = content();
     let mut picker = with_peer(Keeps::Begun);
-    assert_eq!(picker.take_job(1).map(|_| ()), Err(Error::NotWaiting));
+    assert_eq!(picker.job_take(1).map(|_| ()), Err(Error::NotWaiting));
     bring(&mut picker, 1, piece(&content, 1));
-    let job = picker.take_job(1).unwrap();
-    assert_eq!(picker.settle_job(&job), Err(Error::NotHashed));
+    let job = picker.job_take(1).unwrap();
+    assert_eq!(picker.job_settle(&job), Err(Error::NotHashed));
     let job = thread::spawn(move || hashed(job)).join().unwrap();
-    assert_eq!(picker.settle_job(&job), Ok(Answer::Had));
-    assert_eq!(picker.settle_job(&job), Err(Error::NotWaiting));
+    assert_eq!(picker.job_settle(&job), Ok(Answer::Had));
+    assert_eq!(picker.job_settle(&job), Err(Error::NotWaiting));
     drop(picker);
     assert_eq!(job.read_into(&mut [0; 3]), Err(Error::Length));
     assert_eq!((job.piece(), job.read().as_slice()), (1, piece(&content, 1)));
@@ -700,10 +700,10 @@ fn a_stale_verdict_is_refused() {
     let content = content();
     let mut picker = with_peer(Keeps::Begun);
     bring(&mut picker, 0, piece(&content, 1));
-    let (first, second) = (picker.take_job(0).unwrap(), picker.take_job(0).unwrap());
-    assert_eq!(picker.settle_job(&hashed(first)), Ok(Answer::Failed));
+    let (first, second) = (picker.job_take(0).unwrap(), picker.job_take(0).unwrap());
+    assert_eq!(picker.job_settle(&hashed(first)), Ok(Answer::Failed));
     bring(&mut picker, 0, piece(&content, 0));
-    assert_eq!(picker.settle_job(&hashed(second)), Err(Error::Stale));
+    assert_eq!(picker.job_settle(&hashed(second)), Err(Error::Stale));
     assert_eq!(picker.is_waiting(0), Ok(true));
 }
 
@@ -731,8 +731,8 @@ fn threads_share_a_picker_by_a_mutex() {
             let (picker, bytes) = (&picker, piece(&content, number));
             scope.spawn(move || {
                 bring(&mut picker.lock().unwrap(), number, bytes);
-                let job = picker.lock().unwrap().take_job(number).unwrap();
-                assert_eq!(picker.lock().unwrap().settle_job(&hashed(job)), Ok(Answer::Had));
+                let job = picker.lock().unwrap().job_take(number).unwrap();
+                assert_eq!(picker.lock().unwrap().job_settle(&hashed(job)), Ok(Answer::Had));
             });
         }
     });
@@ -740,8 +740,9 @@ fn threads_share_a_picker_by_a_mutex() {
 }
 
 #[test]
-fn four_messages_are_hashed_at_once() {
+fn messages_are_hashed_alone_and_four_at_once() {
     let abc = [0xa9, 0x99, 0x3e, 0x36, 0x47, 0x06, 0x81, 0x6a, 0xba, 0x3e, 0x25, 0x71, 0x78, 0x50, 0xc2, 0x6c, 0x9c, 0xd0, 0xd8, 0x9d];
-    assert_eq!(hash4([b"abc"; 4]), [abc; 4]);
-    assert_eq!(hash4([b"abc", b"", b"abc", b"abcd"])[2], abc);
+    assert_eq!(hash(b"abc"), abc);
+    assert_eq!(hash_four([b"abc"; 4]), [abc; 4]);
+    assert_eq!(hash_four([b"abc", b"", b"abc", b"abcd"])[2], abc);
 }

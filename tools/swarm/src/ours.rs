@@ -1,7 +1,7 @@
 //! The rules of the library.
 
 use crate::rule::{Ask, Block, Came, Content, Fault, Rule, BLOCK};
-use piecepick::{hash4, Answer, Digest, Options, Picker};
+use piecepick::{hash_four, Answer, Digest, Options, Picker};
 
 /// The content of each block. The library reads none of it.
 static BYTES: [u8; BLOCK as usize] = [0; BLOCK as usize];
@@ -35,7 +35,7 @@ impl Ours {
     /// A picker by these options.
     pub fn new(content: Content, options: Options, first: First) -> Result<Ours, Fault> {
         let piece = vec![0; (content.blocks * BLOCK) as usize];
-        let digest = hash4([&piece, b"", b"", b""])[0];
+        let digest = hash_four([&piece, b"", b"", b""])[0];
         let digests = vec![digest; content.pieces as usize];
         let mut picker = Picker::open_parts(content.blocks * BLOCK, content.bytes(), &digests, options)?;
         if first == First::Lowest {

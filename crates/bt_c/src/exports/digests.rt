@@ -1,11 +1,22 @@
 //! Hashing with no desk and no handle.
 ghost use Rattle.std.specs.Prelude.{◌≡◌, length};
 ghost use Rattle.std.specs.List.{concat};
+ghost use Rattle.sha1.specs.Sha1.{sha1};
 ghost use Rattle.bt_c.specs.Digests.{PutsDigests, TellsDigests, digests_of};
 
 use super::tell::tell_done;
+use crate::digest::Digest;
 use crate::fault::Fault;
 use bt_check::hash_four;
+use sha1::Sha1;
+
+/// Writes the SHA-1 of the message. Takes no memory.
+#[unsafe(no_mangle)]
+pub extern "C" fn piecepick_hash(message: &[u8], digest: &mut Digest)
+    ensures { digest.new.bytes ≡ sha1 message.now }
+{
+    digest.bytes = Sha1::digest(message);
+}
 
 /// Writes the digests into the room, one behind the other.
 fn put_digests(digests: &[[u8; 20]; 4], room: &mut [u8])
@@ -37,7 +48,7 @@ fn hash_into(
 /// Writes the SHA-1 of each of four messages into a room of 80 bytes, in their order. The lengths may be any. Four messages of one length
 /// are hashed side by side, which is faster. Takes no memory.
 #[unsafe(no_mangle)]
-pub extern "C" fn piecepick_hash4(
+pub extern "C" fn piecepick_hash_four(
     first: &[u8],
     second: &[u8],
     third: &[u8],
