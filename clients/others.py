@@ -348,7 +348,7 @@ def opentracker(place: Place) -> int:
 def fetch(place: Place, seeds: bool, kilobytes: int = 0, words: tuple[str, ...] = ("--seed-minutes", "10"), peers: tuple[str, ...] = ()) -> Client:
     """The downloader of this folder."""
     (host, port), room = place.address(), place.room("fetch", seeds)
-    command = [sys.executable, str(HERE / "fetch.py"), "--quiet", "--json", "--bind", host, "--port", str(port), *words]
+    command = [sys.executable, str(HERE / "fetch.py"), "--quiet", "--json", "--no-dht", "--bind", host, "--port", str(port), *words]
     command += ["--up", str(kilobytes)] if kilobytes else []
     return place.start("fetch", [*command, str(place.torrent), str(room / "content"), *peers], host, port, room / "content", subprocess.PIPE)
 

@@ -8,10 +8,13 @@ import time
 from collections.abc import Iterable
 from typing import Any
 
+from .blame import Address
+from .ending import Ending
 from .layout import levels_of, printable
 from .options import Options
-from .parts import Parts
+from .parts import Parts, why_not
 from .picture import draw
+from .place import PART_SUFFIX
 from .progress import Progress, State, line, size
 from .recorder import Recorder
 from .serving import Gate, Server, Urgent
@@ -24,6 +27,15 @@ class Interrupted(Exception):
     """The user has ended the program while it looked at what is there."""
 
 
+def looked_up(address: Address) -> Address:
+    """The address with its number in place of a name. Raises ValueError."""
+    try:
+        where = socket.getaddrinfo(*address, type=socket.SOCK_STREAM)[0][4]
+    except OSError as error:
+        raise ValueError(f"{address[0]}: {error.strerror}") from error
+    return str(where[0]), int(where[1])
+
+
 class Download:
     """Runs the parts. `prepare` comes first, then `run`, and `close` in any case."""
 
@@ -31,6 +43,8 @@ class Download:
         self.options, self.parts = options, Parts(options, metainfo)
         self.progress = Progress(options.quiet or options.watches)
         self.watch = Watch() if options.watches else None
+        if options.is_verbose and not options.watches:
+            self.parts.swarm.partings.tell = self.progress.say
         self.server: Server | None = None
         self.urgent: Urgent | None = None
         self.began = time.monotonic()
@@ -54,9 +68,8 @@ class Download:
         parts.picker.set_in_order(self.options.in_order)
         if self.options.serve is not None:
             self._serve(self.options.serve, levels)
-        for host, port in self.options.peers:
-            for _, _, _, _, where in socket.getaddrinfo(host, port, type=socket.SOCK_STREAM)[:1]:
-                parts.swarm.addresses.add((str(where[0]), int(where[1])), is_given=True)
+        for address in self.options.peers:
+            parts.swarm.addresses.add(looked_up(address), is_given=True)
         self.began = self._newest = time.monotonic()
 
     def _tell_check(self, done: int, pieces: int) -> None:
@@ -66,9 +79,13 @@ class Download:
             raise Interrupted
 
     def _serve(self, port: int, levels: bytes) -> None:
-        """Lets players read. Raises OSError where the port can't be had."""
+        """Lets players read. Raises ValueError where the port can't be had."""
         gate = Gate(self.parts.content, self.parts.swarm.wake)
-        self.server, self.urgent = Server(port, gate), Urgent(gate, self.parts.session, levels, self.options.in_order)
+        try:
+            self.server = Server(port, gate)
+        except OSError as error:
+            raise ValueError(why_not(error, port, "--serve")) from error
+        self.urgent = Urgent(gate, self.parts.session, levels, self.options.in_order)
         self.parts.swarm.on_verdict = lambda verdict: gate.came()
         self.server.start()
         self.progress.say(f"players find the files at {self.server.url}")
@@ -146,6 +163,8 @@ class Download:
             down=sum(peer.down.per_second(now) for peer in peers),
             up=sum(peer.up.per_second(now) for peer in peers),
             peers=len(peers),
+            pieces_done=sum(map(content.has, self.wanted)) if self.is_part else content.had_count,
+            pieces=len(self.wanted),
             note=self.parts.announcer.note,
         )
 
@@ -158,6 +177,7 @@ class Download:
         self.parts.stop()
         self._save()
         self.parts.storage.close()
+        self.parts.lock.release()
         self.progress.end()
         if self.parts.recorder and self.options.picture:
             self._draw(self.parts.recorder, self.options.picture)
@@ -171,6 +191,26 @@ class Download:
                 file.write(draw(recorder.trace, printable(title), self.options.by_rarity))
         except OSError as error:
             self.progress.say(f"the picture can't be written: {error.strerror}")
+
+    def ending(self) -> Ending:
+        """What a person is told at the end."""
+        parts = self.parts
+        state = self.state(time.monotonic())
+        unwanted = [file for file in parts.layout.files if parts.levels[file.number] == 0]
+        return Ending(
+            path=parts.root,
+            is_done=parts.picker.has_wanted,
+            done=state.done,
+            wanted=state.wanted,
+            restored=parts.content.restored_bytes,
+            came=parts.session.figures.bytes,
+            given=parts.uploads.total,
+            seconds=(self.finished or time.monotonic()) - self.began,
+            givers=len(parts.swarm.partings.givers),
+            reasons=parts.swarm.partings.line(),
+            knows_nobody=not parts.swarm.addresses.known and not parts.announcer.tiers,
+            parts=tuple(path for path in map(parts.storage.path_of, unwanted) if path.endswith(PART_SUFFIX) and os.path.exists(path)),
+        )
 
     def figures(self) -> dict[str, Any]:
         """What happened, in numbers."""
@@ -200,6 +240,7 @@ class Download:
             "banned": parts.swarm.banned,
             "alone": parts.session.suspects.told,
             "announces": parts.announcer.announces,
+            "refusals": parts.swarm.partings.counted(),
         }
         if parts.metered:
             told |= {"calls": parts.metered.calls, "library": round(parts.metered.seconds, 3)}

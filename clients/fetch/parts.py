@@ -2,7 +2,7 @@
 
 from __future__ import annotations
 
-import os
+import errno
 import secrets
 import socket
 from typing import cast
@@ -13,11 +13,13 @@ from .addresses import Addresses
 from .announcing import Announcer
 from .checking import Checker
 from .content import Content
-from .layout import File, Layout, safe_path
+from .layout import File, Layout
+from .lock import Lock
 from .metainfo import MetainfoFault, files_of, is_folder, trackers_of
 from .meter import Metered
 from .options import Options
 from .peer import FIRST_DEPTH, MOST_DEPTH
+from .place import STATE_SUFFIX, root_of
 from .recorder import Recorder
 from .session import Session
 from .storage import Storage
@@ -29,7 +31,6 @@ CLIENT = b"-PP0003-"
 PORTS = range(6881, 6890)
 NO_PORT = 1  # is told a tracker by who takes no connections, since some refuse 0
 USUAL_LEVEL = 4
-STATE_SUFFIX = ".piecepick"
 
 
 def open_picker(metainfo: bytes, options: Options) -> Picker:
@@ -50,18 +51,32 @@ def layout_of(picker: Picker) -> Layout:
 
 
 def listener_of(options: Options) -> socket.socket | None:
-    """The socket at which peers connect to us. Raises OSError where the port that was told can't be had."""
+    """The socket at which peers connect to us. Raises ValueError where the port that was told can't be had."""
     if not options.listens:
         return None
-    family = socket.AF_INET6 if ":" in options.bind else socket.AF_INET
-    if options.port is not None:
-        return socket.create_server((options.bind, options.port), family=family)
-    for port in PORTS:
+    ports = PORTS if options.port is None else [options.port]
+    for port in ports:
         try:
-            return socket.create_server((options.bind, port), family=family)
-        except OSError:
-            continue
-    return socket.create_server((options.bind, 0), family=family)
+            return _listen(options.bind, port)
+        except OSError as error:
+            if options.port is not None or error.errno == errno.EADDRNOTAVAIL:
+                raise ValueError(why_not(error, port, "--port", options.bind)) from error
+    return _listen(options.bind, 0)
+
+
+def _listen(host: str, port: int) -> socket.socket:
+    return socket.create_server((host, port), family=socket.AF_INET6 if ":" in host else socket.AF_INET)
+
+
+def why_not(error: OSError, port: int, option: str, host: str = "") -> str:
+    """Why nobody can listen at a port, and the option that changes it."""
+    if error.errno == errno.EADDRINUSE:
+        return f"port {port} is in use: {option} chooses another one"
+    if error.errno == errno.EACCES:
+        return f"port {port} is for the system's programs: {option} chooses another one"
+    if error.errno == errno.EADDRNOTAVAIL:
+        return f"{host} is no address of this machine: --bind chooses another one"
+    return f"port {port} can't be had ({error.strerror}): {option} chooses another one"
 
 
 def file_levels(layout: Layout, options: Options) -> dict[int, int]:
@@ -79,21 +94,33 @@ class Parts:
 
     def __init__(self, options: Options, metainfo: bytes) -> None:
         plain = open_picker(metainfo, options)
+        self.options, self.metainfo = options, metainfo
         self.metered = Metered(plain) if options.meters else None
         self.picker = cast(Picker, self.metered or plain)
         self.layout = layout_of(plain)
         self.levels = file_levels(self.layout, options)
-        self.root = os.path.join(options.out, safe_path([plain.name])) if options.out.endswith(os.sep) else options.out
-        self.storage = Storage(self.root, self.layout, is_folder(plain))
+        self.root = root_of(options.out, plain.name, self.layout, is_folder(plain))
+        self.lock = Lock(self.root)
+        self.lock.take()
+        try:
+            self._build(is_folder(plain))
+        except BaseException:
+            self.lock.release()
+            raise
+
+    def _build(self, is_folder: bool) -> None:
+        """All that stands on the picker and the layout, at a place that nobody else writes to."""
+        options = self.options
+        listener = listener_of(options)
+        self.storage = Storage(self.root, self.layout, is_folder)
         self.checker = Checker(self.storage, lambda: self.swarm.wake())
         self.content = Content(self.picker, self.layout, self.storage, self.checker, self.root + STATE_SUFFIX)
         self.uploads = Uploads(self.content, None if options.up_limit is None else 1000 * options.up_limit)
         self.recorder = Recorder(self.picker, self.layout) if options.picture else None
         self.session = Session(self.content, self.uploads, self.recorder)
-        listener = listener_of(options)
         limits = Limits(CLIENT + secrets.token_bytes(12), options.most_peers, options.slots, options.bind)
         self.swarm = Swarm(self.session, Addresses(), limits, listener)
-        tiers = trackers_of(metainfo) if options.asks_trackers else []
+        tiers = trackers_of(self.metainfo) if options.asks_trackers else []
         self.announcer = Announcer(tiers, self._announce, self.swarm.wake, options.bind)
         self._key = secrets.randbits(32)
 

@@ -21,6 +21,8 @@ class State:
     down: float
     up: float
     peers: int
+    pieces_done: int = 0
+    pieces: int = 0
     note: str = ""
 
 
@@ -43,7 +45,8 @@ def duration(seconds: float) -> str:
 def line(state: State) -> str:
     """The progress line."""
     share = 100.0 * state.done / state.wanted if state.wanted else 100.0
-    parts = [f"{share:5.1f}% of {size(state.wanted)}", f"{size(state.down)}/s down"]
+    pieces = f"{state.pieces_done} of {state.pieces} piece{'' if state.pieces == 1 else 's'}"
+    parts = [f"{share:5.1f}% of {size(state.wanted)}", pieces, f"{size(state.down)}/s down"]
     if state.up:
         parts.append(f"{size(state.up)}/s up")
     parts.append(f"{state.peers} peer{'' if state.peers == 1 else 's'}")

@@ -4,6 +4,7 @@ from __future__ import annotations
 
 import contextlib
 import errno
+import os
 import selectors
 import socket
 import time
@@ -14,6 +15,7 @@ from .addresses import Addresses
 from .blame import Address
 from .choking import ROUND, Candidate, Choker
 from .content import Verdict
+from .partings import Partings
 from .peer import Peer
 from .session import Session
 from .wire import KEEPALIVE, Handshake, Inbound, WireFault
@@ -28,6 +30,15 @@ MOST_BACKLOG = 1 << 20  # bytes unsent, above which nothing more is read from a 
 READ = 1 << 18  # bytes that are read at a time
 TICK = 0.2  # seconds
 SLOW_TICK = 1.0
+
+
+CLOSED = "closed the connection"
+CLOSED_EARLY = "closed the connection before its handshake: it may have another torrent, no place, or want encryption"
+
+
+def said_by(error: OSError) -> str:
+    """An error of a connection, for the user."""
+    return error.strerror or str(error)
 
 
 @dataclass(frozen=True)
@@ -51,6 +62,7 @@ class Swarm:
         self.peers: set[Peer] = set()
         self.free_workers = list(range(self.content.disk))
         self.is_stopping = self.is_closing = False
+        self.partings = Partings()
         self.lost = self.banned = self.connections = 0
         self.on_verdict: Callable[[Verdict], None] = lambda verdict: None
         self._woken, self._waker = socket.socketpair()
@@ -92,6 +104,7 @@ class Swarm:
             error = fault.errno or errno.EINVAL
         if error not in (0, errno.EINPROGRESS):
             connection.close()
+            self.partings.note(address, os.strerror(error))
             self.addresses.failed(address, self.session.now)
             return
         self._add(connection, address, is_incoming=False)
@@ -121,10 +134,11 @@ class Swarm:
         self.selector.register(connection, peer.events, peer)
         return peer
 
-    def drop(self, peer: Peer) -> None:
-        """Ends a connection."""
+    def drop(self, peer: Peer, why: str = "the program ends") -> None:
+        """Ends a connection. `why` is for the user."""
         if peer not in self.peers:
             return
+        self.partings.note(peer.address, why, peer.down.total > 0)
         self.peers.discard(peer)
         self.selector.unregister(peer.connection)
         peer.connection.close()
@@ -143,7 +157,7 @@ class Swarm:
         self.banned += 1
         self.addresses.ban(address)
         for peer in [peer for peer in self.peers if self.addresses.is_banned(peer.address)]:
-            self.drop(peer)
+            self.drop(peer, "sent wrong data, and is banned")
 
     def _greet(self, peer: Peer, handshake: Handshake) -> None:
         """The handshake came: the peer joins. Raises WireFault where it isn't welcome."""
@@ -180,11 +194,11 @@ class Swarm:
             data = peer.connection.recv(READ)
         except (BlockingIOError, InterruptedError):
             return
-        except OSError:
-            self.drop(peer)
+        except OSError as error:
+            self.drop(peer, said_by(error))
             return
         if not data:
-            self.drop(peer)
+            self.drop(peer, CLOSED if peer.is_joined else CLOSED_EARLY)
             return
         peer.is_connected = True
         try:
@@ -195,22 +209,22 @@ class Swarm:
                 self._greet(peer, handshake)
                 data = b""
             self.session.receive(peer, data)
-        except WireFault:
-            self.drop(peer)
+        except WireFault as fault:
+            self.drop(peer, str(fault))
 
     def _send(self, peer: Peer) -> None:
         """Sends what can be sent."""
         if not peer.is_connected:
-            if peer.connection.getsockopt(socket.SOL_SOCKET, socket.SO_ERROR):
-                self.drop(peer)
+            if error := peer.connection.getsockopt(socket.SOL_SOCKET, socket.SO_ERROR):
+                self.drop(peer, os.strerror(error))
                 return
             peer.is_connected = True
         try:
             sent = peer.connection.send(peer.unsent)
         except (BlockingIOError, InterruptedError):
             return
-        except OSError:
-            self.drop(peer)
+        except OSError as fault:
+            self.drop(peer, said_by(fault))
             return
         del peer.unsent[:sent]
         peer.said = self.session.now
@@ -277,19 +291,27 @@ class Swarm:
         now = self.session.now
         if not peer.is_joined:
             if now - peer.began > HANDSHAKE_SECONDS:
-                self.drop(peer)
+                self.drop(peer, "no handshake came" if peer.is_connected else "doesn't answer")
             return
-        is_stuck = len(peer.unsent) > 0 and now - peer.said > STUCK_SECONDS
-        if is_stuck or now - peer.heard > QUIET_SECONDS or not self.session.time_out(peer):
-            self.drop(peer)
+        if why := self._is_dead(peer):
+            self.drop(peer, why)
             return
         if self._is_useless(peer):
-            self.drop(peer)
+            self.drop(peer, "has all, as we have")
             self.addresses.postpone(peer.address, now)
             return
         self.session.follow_rate(peer)
         if now - peer.said > KEEPALIVE_SECONDS and not peer.unsent:
             peer.unsent += KEEPALIVE
+
+    def _is_dead(self, peer: Peer) -> str:
+        """Why a peer isn't worth to be kept; empty where it is."""
+        now = self.session.now
+        if peer.unsent and now - peer.said > STUCK_SECONDS:
+            return "takes nothing"
+        if now - peer.heard > QUIET_SECONDS:
+            return "is silent"
+        return "" if self.session.time_out(peer) else "doesn't bring what it is asked for"
 
     def _is_useless(self, peer: Peer) -> bool:
         """Whether neither side can ever have something for the other: both have all."""

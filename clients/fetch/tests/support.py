@@ -195,8 +195,9 @@ class Downloading(unittest.TestCase):
 
     def start(self, *words: str, seeders: tuple[Seeder, ...] = ()) -> subprocess.Popen[str]:
         """Starts the program."""
-        command = [sys.executable, "-B", "-W", "error", str(Path(CLIENTS, "fetch.py")), "--quiet", *([] if self.listens else ["--no-listen"]), *words]
-        command += [str(self.torrent_path), str(self.out), *(seeder.address for seeder in seeders)]
+        command = [sys.executable, "-B", "-W", "error", str(Path(CLIENTS, "fetch.py")), "--quiet", "--no-dht"]
+        command += [] if self.listens else ["--no-listen"]
+        command += ["--figures", *words, str(self.torrent_path), str(self.out), *(seeder.address for seeder in seeders)]
         return subprocess.Popen(command, stdout=subprocess.PIPE, stderr=subprocess.PIPE, text=True)
 
     def fetch(self, *seeders: Seeder, words: tuple[str, ...] = (), status: int = 0) -> dict[str, str]:
