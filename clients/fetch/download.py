@@ -8,6 +8,7 @@ import time
 from collections.abc import Iterable
 from typing import Any
 
+from .addresses import Origin
 from .blame import Address
 from .ending import Ending
 from .layout import levels_of, printable
@@ -69,7 +70,7 @@ class Download:
         if self.options.serve is not None:
             self._serve(self.options.serve, levels)
         for address in self.options.peers:
-            parts.swarm.addresses.add(looked_up(address), is_given=True)
+            parts.swarm.addresses.add(looked_up(address), Origin.USER)
         self.began = self._newest = time.monotonic()
 
     def _tell_check(self, done: int, pieces: int) -> None:

@@ -10,6 +10,8 @@ from piecepick import DepthByRate
 
 from .blame import Address
 from .deadlines import Pace
+from .exchange import Exchange
+from .extended import Hello
 from .rate import Rate
 from .wire import Inbound, Message, spell
 
@@ -40,7 +42,10 @@ class Peer:
     is_connected: bool = False
     is_fast: bool = False
     is_extended: bool = False
-    dont_have: int = 0  # its number for the message that a piece is lost; 0 where it takes none
+    has_dht: bool = False
+    hello: Hello = field(default_factory=Hello)  # what it said by the extension protocol
+    exchange: Exchange = field(default_factory=Exchange)
+    is_web: bool = False  # a web server, by a peer of this process
     unsent: bytearray = field(default_factory=bytearray)
     events: int = 0  # of the selector
 
@@ -78,6 +83,15 @@ class Peer:
     def is_joined(self) -> bool:
         """Whether the handshakes were exchanged, so that the picker knows it."""
         return self.worker != NO_WORKER
+
+    @property
+    def listens_at(self) -> Address | None:
+        """Where others may connect to it; None where that isn't known. Who came to us says its port, or doesn't."""
+        if self.is_web:
+            return None
+        if not self.is_incoming:
+            return self.address
+        return (self.address[0], self.hello.port) if self.hello.port else None
 
     @property
     def depth(self) -> int:

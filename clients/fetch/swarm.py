@@ -127,12 +127,16 @@ class Swarm:
         peer = Peer(connection, address, is_incoming, Inbound(self.session.layout.pieces), self.session.now)
         self.peers.add(peer)
         if not is_incoming:
-            peer.unsent += Handshake(self.content.infohash, self.limits.peer_id).spell()
+            peer.unsent += self._handshake()
         peer.events = selectors.EVENT_READ if is_incoming else selectors.EVENT_READ | selectors.EVENT_WRITE
         with contextlib.suppress(OSError):
             connection.setsockopt(socket.IPPROTO_TCP, socket.TCP_NODELAY, 1)
         self.selector.register(connection, peer.events, peer)
         return peer
+
+    def _handshake(self) -> bytes:
+        """Who we are."""
+        return Handshake(self.content.infohash, self.limits.peer_id, has_dht=self.session.dht_port > 0).spell()
 
     def drop(self, peer: Peer, why: str = "the program ends") -> None:
         """Ends a connection. `why` is for the user."""
@@ -174,8 +178,10 @@ class Swarm:
         if worker is None:
             raise WireFault("there is no place for another peer")
         if peer.is_incoming:
-            peer.unsent += Handshake(self.content.infohash, self.limits.peer_id).spell()
-        peer.peer_id, peer.is_fast, peer.is_extended = handshake.peer_id, handshake.is_fast, handshake.is_extended
+            peer.unsent += self._handshake()
+        peer.peer_id, peer.is_fast, peer.is_extended, peer.has_dht = (
+            handshake.peer_id, handshake.is_fast, handshake.is_extended, handshake.has_dht
+        )  # fmt: skip
         self.connections += 1
         self.session.join(peer, worker)
 
@@ -282,6 +288,7 @@ class Swarm:
             self._slowly_ticked = now
             for peer in list(self.peers):
                 self._look_after(peer)
+            self.session.extensions.exchange_peers(self.session.peers.values(), now)
         if now - self._choked >= ROUND or self._has_new_interest():
             self._choked = now
             self._choke()

@@ -212,7 +212,8 @@ class FullDisk(Downloading):
         """The system refuses more than a part of the file; afterwards the download goes on."""
         limit = "import os, resource, sys; resource.setrlimit(resource.RLIMIT_FSIZE, (1 << 20, 1 << 20)); os.execv(sys.executable, sys.argv[1:])"
         seeder = self.seeder()
-        program = [sys.executable, str(Path(CLIENTS, "fetch.py")), "--quiet", "--no-dht", "--no-listen", str(self.torrent_path), str(self.out), seeder.address]
+        program = [sys.executable, str(Path(CLIENTS, "fetch.py")), "--quiet", "--no-dht", "--no-listen"]
+        program += [str(self.torrent_path), str(self.out), seeder.address]
         process = subprocess.run([sys.executable, "-c", limit, *program], capture_output=True, text=True, timeout=30)
         self.assertEqual(process.returncode, 4, process.stderr)
         self.assertIn("larger than the system allows", process.stderr)

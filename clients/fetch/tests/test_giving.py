@@ -34,7 +34,7 @@ class Answers(Speaking):
         peer = Peer(cast(Any, None), ("127.0.0.1", 1), True, Inbound(PIECES), self.session.now)
         peer.is_extended = True
         self.session.join(peer, 0)
-        self.assertTrue(self.said(peer).endswith(message(EXTENDED, data=b"\0d1:md11:lt_donthavei7eee")))
+        self.assertTrue(self.said(peer).endswith(message(EXTENDED, data=b"\0d1:md11:lt_donthavei7e11:ut_metadatai2ee1:v9:piecepicke")))
 
     def test_given(self) -> None:
         peer = self.peer(False)
