@@ -4,6 +4,7 @@ from __future__ import annotations
 
 import ipaddress
 import random
+import socket
 from dataclasses import dataclass
 from enum import Enum
 
@@ -105,6 +106,8 @@ class Addresses:
         self.banned.add(address)
         if not is_loopback(address[0]):
             self.banned_hosts.add(address[0])
+            for other in [other for other in self.known if other[0] == address[0]]:
+                self._remove(other)
 
     def is_banned(self, address: Address) -> bool:
         """Whether nothing may come from there."""
@@ -137,3 +140,12 @@ def parse(text: str) -> Address:
     if not colon or not host or not port.isascii() or not port.isdigit() or not 0 < int(port) < 1 << 16:
         raise ValueError(f"{text!r} is no address: HOST:PORT is one")
     return host, int(port)
+
+
+def looked_up(address: Address) -> Address:
+    """The address with its number in place of a name. Raises ValueError."""
+    try:
+        where = socket.getaddrinfo(*address, type=socket.SOCK_STREAM)[0][4]
+    except OSError as error:
+        raise ValueError(f"{address[0]}: {error.strerror}") from error
+    return str(where[0]), int(where[1])

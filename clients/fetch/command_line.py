@@ -9,7 +9,7 @@ from typing import TypeVar
 
 from . import addresses
 from .blame import Address
-from .options import Options
+from .options import FIRST_NODES, Options
 
 MOST_FILES = 1 << 20
 LIKE_ADDRESS = re.compile(r"[^/]+:[0-9]+")
@@ -112,7 +112,11 @@ def _add_swarm(parser: argparse.ArgumentParser) -> None:
     swarm.add_argument("--slots", type=_count, default=4, metavar="N", help="peers that are uploaded to at a time, 4 by default; 0 uploads nothing")
     swarm.add_argument("--up", type=_count, dest="up_limit", metavar="KB", help="upload so many kilobytes a second at most")
     swarm.add_argument("--no-tracker", action="store_false", dest="asks_trackers", help="ask no tracker")
-    swarm.add_argument("--no-dht", action="store_false", dest="uses_dht", help="find no peers by the DHT")
+    swarm.add_argument("--dht", action=argparse.BooleanOptionalAction, dest="uses_dht", default=True, help="find peers by the DHT (default)")
+    node = "begin the way into the DHT at this node, and not at the public ones; may come several times"
+    swarm.add_argument("--dht-node", type=_told(addresses.parse), action="append", default=[], dest="dht_nodes", metavar="HOST:PORT", help=node)
+    swarm.add_argument("--no-exchange", action="store_false", dest="exchanges_peers", help="tell peers of no others, and hear of none by them")
+    swarm.add_argument("--no-web", action="store_false", dest="uses_web_seeds", help="take nothing from web servers")
     swarm.add_argument("--askers", type=_peers, default=2, metavar="N", help="of so many peers a block is asked at most in endgame, 2 by default")
 
 
@@ -142,7 +146,7 @@ def _add_shown(parser: argparse.ArgumentParser) -> None:
 def _parser() -> argparse.ArgumentParser:
     raw = argparse.RawDescriptionHelpFormatter
     parser = argparse.ArgumentParser(prog="fetch.py", usage=USAGE, description=DESCRIPTION, epilog=ENDING, formatter_class=raw)
-    parser.add_argument("torrent", metavar="TORRENT", help="a metainfo file")
+    parser.add_argument("torrent", metavar="TORRENT", help="a metainfo file, its http or https address, or a magnet link")
     parser.add_argument("words", metavar="OUT, HOST:PORT", nargs="*", help="where the content goes, and peers beside those of the trackers")
     parser.add_argument("--out", help="OUT by an option, for a name that looks like something else")
     _add_choice(parser)
@@ -168,6 +172,7 @@ def read(words: list[str]) -> Options:
     parser = _parser()
     given = vars(parser.parse_intermixed_args(words))
     given["levels"] = dict(given.pop("level"))
+    given["dht_nodes"] = tuple(given["dht_nodes"]) or FIRST_NODES
     try:
         given["out"], given["peers"] = _sort(given.pop("words"), given["out"])
     except ValueError as fault:

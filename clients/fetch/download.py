@@ -3,20 +3,20 @@
 from __future__ import annotations
 
 import os
-import socket
 import time
 from collections.abc import Iterable
 from typing import Any
 
-from .addresses import Origin
-from .blame import Address
+from .addresses import Origin, looked_up
 from .ending import Ending
+from .finding import Finding
 from .layout import levels_of, printable
 from .options import Options
 from .parts import Parts, why_not
 from .picture import draw
 from .place import PART_SUFFIX
 from .progress import Progress, State, line, size
+from .reach import Reach
 from .recorder import Recorder
 from .serving import Gate, Server, Urgent
 from .watch import Watch
@@ -28,20 +28,12 @@ class Interrupted(Exception):
     """The user has ended the program while it looked at what is there."""
 
 
-def looked_up(address: Address) -> Address:
-    """The address with its number in place of a name. Raises ValueError."""
-    try:
-        where = socket.getaddrinfo(*address, type=socket.SOCK_STREAM)[0][4]
-    except OSError as error:
-        raise ValueError(f"{address[0]}: {error.strerror}") from error
-    return str(where[0]), int(where[1])
-
-
 class Download:
     """Runs the parts. `prepare` comes first, then `run`, and `close` in any case."""
 
-    def __init__(self, options: Options, metainfo: bytes) -> None:
+    def __init__(self, options: Options, metainfo: bytes, reach: Reach | None = None) -> None:
         self.options, self.parts = options, Parts(options, metainfo)
+        self.finding = Finding(self.parts, reach)
         self.progress = Progress(options.quiet or options.watches)
         self.watch = Watch() if options.watches else None
         if options.is_verbose and not options.watches:
@@ -71,6 +63,7 @@ class Download:
             self._serve(self.options.serve, levels)
         for address in self.options.peers:
             parts.swarm.addresses.add(looked_up(address), Origin.USER)
+        self.finding.start()
         self.began = self._newest = time.monotonic()
 
     def _tell_check(self, done: int, pieces: int) -> None:
@@ -100,8 +93,7 @@ class Download:
             if now - self._saved >= SAVE_SECONDS:
                 self._saved = now
                 self._save()
-            for address in parts.announcer.tick(now, len(session.peers)):
-                parts.swarm.addresses.add(address)
+            self.finding.tick(now)
             if self.urgent:
                 self.urgent.tick()
             if self.watch and self.watch.is_due(now):
@@ -175,6 +167,7 @@ class Download:
             self.watch.close()
         if self.server:
             self.server.close()
+        self.finding.close()
         self.parts.stop()
         self._save()
         self.parts.storage.close()
@@ -209,7 +202,7 @@ class Download:
             seconds=(self.finished or time.monotonic()) - self.began,
             givers=len(parts.swarm.partings.givers),
             reasons=parts.swarm.partings.line(),
-            knows_nobody=not parts.swarm.addresses.known and not parts.announcer.tiers,
+            knows_nobody=self.finding.knows_nobody,
             parts=tuple(path for path in map(parts.storage.path_of, unwanted) if path.endswith(PART_SUFFIX) and os.path.exists(path)),
         )
 

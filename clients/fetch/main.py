@@ -4,16 +4,18 @@ from __future__ import annotations
 
 import os
 import sys
-from contextlib import suppress
+from contextlib import closing, suppress
 from enum import IntEnum
 
 from . import command_line, listing
 from .layout import printable
 from .metainfo import MetainfoFault
 from .options import Options
+from .progress import Progress
+from .reach import Reach
+from .signals import ends_in_order
+from .source import NotFound, obtain
 from .storage import StorageFault
-
-LARGEST_METAINFO = 1 << 28  # bytes
 
 
 class Ended(IntEnum):
@@ -24,15 +26,6 @@ class Ended(IntEnum):
     WRONG_LINE = 2
     WRONG_METAINFO = 3
     WRONG_DISK = 4
-
-
-def read_torrent(path: str) -> bytes:
-    """The metainfo file. Raises OSError, and MetainfoFault where it is empty."""
-    with open(path, "rb") as file:
-        metainfo = file.read(LARGEST_METAINFO)
-    if not metainfo:
-        raise MetainfoFault(f"{path}: the file is empty")
-    return metainfo
 
 
 def try_picture(path: str) -> None:
@@ -47,21 +40,25 @@ def try_picture(path: str) -> None:
 
 def download(options: Options) -> Ended:
     """Does what the options say."""
-    metainfo = read_torrent(options.torrent)
-    if options.lists:
-        print("\n".join(listing.lines(metainfo)))
-        return Ended.DONE
     if options.picture:
         try_picture(options.picture)
-    from .running import fetch  # the first thing that needs the library
+    with closing(Reach(options)) as reach, closing(Progress(options.quiet)) as progress:
+        source = obtain(options, reach, ends_in_order, progress.tell)
+        progress.end()
+        if options.lists:
+            print("\n".join(listing.lines(source.metainfo)))
+            return Ended.DONE
+        from .running import fetch  # the first thing that needs the library
 
-    return Ended.DONE if fetch(metainfo, options) else Ended.NOT_DONE
+        return Ended.DONE if fetch(source, options, reach) else Ended.NOT_DONE
 
 
 def run(options: Options) -> Ended:
     """The same, where a fault that the user can do something about has a text and a status."""
     try:
         return download(options)
+    except NotFound as fault:
+        status, text = Ended.NOT_DONE, str(fault)
     except MetainfoFault as fault:
         status, text = Ended.WRONG_METAINFO, str(fault)
     except StorageFault as fault:

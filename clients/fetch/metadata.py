@@ -12,7 +12,12 @@ from .spans import end_of
 from .wire import WireFault, spell_extended
 
 PIECE = 1 << 14  # bytes of each piece but the last one
-LARGEST = 1 << 24  # bytes of an info dictionary: 800,000 pieces
+AT_ONCE = 6  # pieces that are asked of one peer
+LARGEST = 1 << 23  # bytes of an info dictionary: 400,000 pieces
+
+
+class WrongInfo(WireFault):
+    """The peer lied."""
 
 
 class Word(IntEnum):
@@ -71,31 +76,35 @@ class Assembly:
         if not 0 < size <= LARGEST:
             raise WireFault(f"the peer's info dictionary has {size} bytes")
         self.infohash, self.size = infohash, size
-        self.came = bytearray()
+        self.came: dict[int, bytes] = {}
+        self.asked: set[int] = set()
 
-    @property
-    def next_piece(self) -> int:
-        """The piece that comes next."""
-        return len(self.came) // PIECE
+    def next(self) -> list[int]:
+        """The pieces that are to be asked for now; they count as asked."""
+        missing = [piece for piece in range(pieces_of(self.size)) if piece not in self.came and piece not in self.asked]
+        new = missing[: max(0, AT_ONCE - len(self.asked))]
+        self.asked.update(new)
+        return new
 
     @property
     def is_full(self) -> bool:
-        """Whether all bytes are there."""
-        return len(self.came) == self.size
+        """Whether all pieces are there."""
+        return len(self.came) == pieces_of(self.size)
 
-    def take(self, said: Said) -> bool:
-        """A message of the peer; whether a piece came by it. Raises WireFault where it sends what isn't asked, or rejects."""
+    def take(self, said: Said) -> None:
+        """A message of the peer. Raises WireFault where it sends what isn't asked, or rejects."""
         if said.word == Word.REJECT:
             raise WireFault("the peer doesn't give its info dictionary")
         if said.word != Word.DATA:
-            return False
-        if self.is_full or said.piece != self.next_piece or len(said.data) != min(PIECE, self.size - len(self.came)):
+            return
+        if said.piece not in self.asked or len(said.data) != min(PIECE, self.size - said.piece * PIECE):
             raise WireFault("a piece of the info dictionary isn't the one that was asked for")
-        self.came += said.data
-        return True
+        self.asked.discard(said.piece)
+        self.came[said.piece] = said.data
 
     def whole(self) -> bytes:
-        """The info dictionary. Raises WireFault where it has another hash."""
-        if hashlib.sha1(self.came, usedforsecurity=False).digest() != self.infohash:
-            raise WireFault("the peer sent an info dictionary of another hash")
-        return bytes(self.came)
+        """The info dictionary. Raises WrongInfo where it has another hash."""
+        info = b"".join(data for _, data in sorted(self.came.items()))
+        if hashlib.sha1(info, usedforsecurity=False).digest() != self.infohash:
+            raise WrongInfo("the peer sent an info dictionary of another hash")
+        return info

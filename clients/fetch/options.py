@@ -6,6 +6,9 @@ from dataclasses import dataclass, field
 
 from .blame import Address
 
+# Where the public DHT begins, as other clients have it.
+FIRST_NODES: tuple[Address, ...] = (("router.bittorrent.com", 6881), ("dht.transmissionbt.com", 6881), ("dht.libtorrent.org", 25401))
+
 
 @dataclass(frozen=True)
 class Options:
@@ -27,6 +30,9 @@ class Options:
     up_limit: int | None = None
     asks_trackers: bool = True
     uses_dht: bool = False
+    dht_nodes: tuple[Address, ...] = ()  # where the way into the DHT begins
+    exchanges_peers: bool = True
+    uses_web_seeds: bool = True
     seed_ratio: float | None = None
     seed_minutes: float | None = None
     give_up: float | None = None

@@ -9,13 +9,16 @@ from typing import cast
 
 from piecepick import Keeps, Picker, PiecepickError, Status
 
-from .addresses import Addresses
+from .addresses import Addresses, Origin
 from .announcing import Announcer
+from .blame import Address
 from .checking import Checker
 from .content import Content
+from .extensions import Extensions
+from .identity import NO_PORT, new_peer_id
 from .layout import File, Layout
 from .lock import Lock
-from .metainfo import MetainfoFault, files_of, is_folder, trackers_of
+from .metainfo import MetainfoFault, files_of, info_of, is_folder, is_private, trackers_of
 from .meter import Metered
 from .options import Options
 from .peer import FIRST_DEPTH, MOST_DEPTH
@@ -27,9 +30,7 @@ from .swarm import Limits, Swarm
 from .tracker import Announce, Event
 from .uploads import Uploads
 
-CLIENT = b"-PP0003-"
 PORTS = range(6881, 6890)
-NO_PORT = 1  # is told a tracker by who takes no connections, since some refuse 0
 USUAL_LEVEL = 4
 
 
@@ -94,7 +95,7 @@ class Parts:
 
     def __init__(self, options: Options, metainfo: bytes) -> None:
         plain = open_picker(metainfo, options)
-        self.options, self.metainfo = options, metainfo
+        self.options, self.metainfo, self.is_private = options, metainfo, is_private(metainfo)
         self.metered = Metered(plain) if options.meters else None
         self.picker = cast(Picker, self.metered or plain)
         self.layout = layout_of(plain)
@@ -117,19 +118,23 @@ class Parts:
         self.content = Content(self.picker, self.layout, self.storage, self.checker, self.root + STATE_SUFFIX)
         self.uploads = Uploads(self.content, None if options.up_limit is None else 1000 * options.up_limit)
         self.recorder = Recorder(self.picker, self.layout) if options.picture else None
-        self.session = Session(self.content, self.uploads, self.recorder)
-        limits = Limits(CLIENT + secrets.token_bytes(12), options.most_peers, options.slots, options.bind)
+        self.port = int(listener.getsockname()[1]) if listener else 0
+        self.extensions = Extensions(info_of(self.metainfo), self.port, options.exchanges_peers and not self.is_private, self._hear_of)
+        self.session = Session(self.content, self.uploads, self.recorder, self.extensions)
+        limits = Limits(new_peer_id(), options.most_peers, options.slots, options.bind)
         self.swarm = Swarm(self.session, Addresses(), limits, listener)
         tiers = trackers_of(self.metainfo) if options.asks_trackers else []
         self.announcer = Announcer(tiers, self._announce, self.swarm.wake, options.bind)
         self._key = secrets.randbits(32)
 
+    def _hear_of(self, peers: list[Address], teller: Address) -> None:
+        """A peer tells of others."""
+        self.swarm.addresses.hear(peers, Origin.EXCHANGE, teller)
+
     def _announce(self, event: Event) -> Announce:
         """What a tracker is told now."""
-        listener = self.swarm.listener
-        port = listener.getsockname()[1] if listener else NO_PORT
         return Announce(
-            self.content.infohash, self.swarm.limits.peer_id, port, self.uploads.total, self.session.figures.bytes, self.content.left,
+            self.content.infohash, self.swarm.limits.peer_id, self.port or NO_PORT, self.uploads.total, self.session.figures.bytes, self.content.left,
             event, self._key,
         )  # fmt: skip
 

@@ -72,17 +72,22 @@ class Progress:
 
     def show(self, state: State, now: float) -> None:
         """Writes the line."""
+        self._write(line(state), now)
+
+    def _write(self, text: str, now: float) -> None:
         self._shown = now
         self._is_open = True
-        print(f"\r{line(state)}\x1b[K", end="", file=self.stream, flush=True)
+        print(f"\r{text}\x1b[K", end="", file=self.stream, flush=True)
+
+    def tell(self, text: str, is_last: bool = False) -> None:
+        """Writes another line in its place, where it is time for it or nothing else follows."""
+        now = time.monotonic()
+        if self.shows and (now - self._shown >= EACH or is_last):
+            self._write(text, now)
 
     def check(self, done: int, pieces: int) -> None:
-        """The same for pieces that are checked at the start."""
-        now = time.monotonic()
-        if self.shows and (now - self._shown >= EACH or done == pieces):
-            self._shown = now
-            self._is_open = True
-            print(f"\rchecking what is there: {done} of {pieces} pieces\x1b[K", end="", file=self.stream, flush=True)
+        """How many pieces were checked at the start."""
+        self.tell(f"checking what is there: {done} of {pieces} pieces", is_last=done == pieces)
 
     def say(self, text: str) -> None:
         """Writes a line of its own."""
@@ -94,3 +99,7 @@ class Progress:
         if self._is_open:
             self._is_open = False
             print(file=self.stream, flush=True)
+
+    def close(self) -> None:
+        """The same."""
+        self.end()

@@ -3,27 +3,15 @@
 from __future__ import annotations
 
 import json
-import signal
 import sys
-from types import FrameType
 from typing import Any
 
 from .download import Download, Interrupted
 from .ending import told
 from .options import Options
-
-
-def end_in_order(download: Download) -> None:
-    """Has the first interrupt end the loop; the second one ends the program."""
-    swarm = download.parts.swarm
-
-    def handle(number: int, frame: FrameType | None) -> None:
-        signal.signal(number, signal.SIG_DFL)
-        swarm.is_stopping = True
-
-    for number in (signal.SIGINT, signal.SIGTERM):
-        signal.signal(number, handle)
-    signal.set_wakeup_fd(swarm.wake_handle, warn_on_full_buffer=False)
+from .reach import Reach
+from .signals import ends_in_order
+from .source import Source
 
 
 def show_figures(figures: dict[str, Any], as_json: bool) -> None:
@@ -49,17 +37,18 @@ def show_end(download: Download, is_done: bool, options: Options) -> None:
         print("\n".join(f"fetch.py: {line}" for line in lines), file=sys.stderr)
 
 
-def fetch(metainfo: bytes, options: Options) -> bool:
+def fetch(source: Source, options: Options, reach: Reach) -> bool:
     """One download; whether all that is wanted is there."""
-    download = Download(options, metainfo)
+    download = Download(options, source.metainfo, reach)
+    for address, origin in source.peers:
+        download.parts.swarm.addresses.add(address, origin)
     try:
-        end_in_order(download)
-        download.prepare()
-        is_done = download.run()
+        with ends_in_order(download.parts.swarm):
+            download.prepare()
+            is_done = download.run()
     except Interrupted:
         return False
     finally:
-        signal.set_wakeup_fd(-1)
         download.close()
     show_end(download, is_done, options)
     return is_done

@@ -122,9 +122,18 @@ class Table:
         for length, bucket in self.buckets.items():
             if bucket.nodes and now - bucket.changed > QUESTIONABLE:
                 bucket.changed = now
-                apart = 1 << (length - 1) | secrets.randbits(length - 1) if length > 1 else 1
-                return (int.from_bytes(self.own, "big") ^ apart).to_bytes(ID_LENGTH, "big")
+                return self._number_in(length)
         return None
+
+    def _number_in(self, length: int) -> bytes:
+        """Any number that would lie in this bucket."""
+        apart = 1 << (length - 1) | secrets.randbits(length - 1) if length > 1 else 1
+        return (int.from_bytes(self.own, "big") ^ apart).to_bytes(ID_LENGTH, "big")
+
+    def far(self) -> list[bytes]:
+        """A number in each bucket that is farther away than our nearest node: who is new looks them up, so that no part is unknown to us."""
+        nearest = min((length for length, bucket in self.buckets.items() if bucket.nodes), default=8 * ID_LENGTH)
+        return [self._number_in(length) for length in range(8 * ID_LENGTH, nearest, -1)]
 
     def addresses(self) -> set[Address]:
         """Where the nodes are."""

@@ -21,8 +21,9 @@ ANSWERED, ANSWERED_TO_HOST = 60.0, 15  # queries in a second that are answered
 MOST_WAITING = 256  # queries without an answer yet
 NEAREST = 16  # nodes with which a lookup begins
 FEW_NODES = 8
-SOON, LATER = 20.0, 300.0  # seconds until a torrent is looked up again, where nobody was found or somebody was
+SOON, LATER = 2.0, 300.0  # seconds until a torrent is looked up again: as long as nobody is found they double, up to the later ones
 FIRST_RETRY, LONGEST_RETRY = 3.0, 300.0  # seconds until we look again for the nodes near to us; they double
+MOST_FAR = 20  # buckets that are looked up at a time
 UNKNOWN = b""  # the number of a node of which the address alone is known
 
 
@@ -35,6 +36,7 @@ class Search:
     on_peers: Callable[[list[Address]], None]
     told: set[Address] = field(default_factory=set)
     next: float = 0.0
+    wait: float = SOON
     lookup: Lookup | None = None
 
 
@@ -58,6 +60,7 @@ class Talk:
         self.asks, self.hears, self.answers = Pace(ASKED), Pace(HEARD), PaceByHost(ANSWERED_TO_HOST, ANSWERED)
         self._waiting: dict[bytes, Waiting] = {}
         self._own_lookups: list[Lookup] = []
+        self._far: list[bytes] = []  # numbers that are looked up once
         self._next_first, self._retry = 0.0, FIRST_RETRY
 
     # What is heard.
@@ -170,6 +173,7 @@ class Talk:
         lookup = Lookup(self.own, self.own, wants_peers=False)
         lookup.add(self.table.nearest(self.own))
         self._own_lookups = [*self._own_lookups[-3:], lookup]
+        self._far = self.table.far()[:MOST_FAR]
         for address in self.first_nodes if len(self.table) < FEW_NODES else []:
             self._ask(Contact(UNKNOWN, address), Method.FIND_NODE, now, lookup, self.own)
 
@@ -184,8 +188,8 @@ class Talk:
         self._pump(search.lookup, now)
         if search.lookup.is_done:
             self._announce(search, search.lookup, now)
-            search.next = now + (LATER if search.lookup.peers else SOON)
-            search.lookup = None
+            search.next = now + (LATER if search.lookup.peers else search.wait)
+            search.wait, search.lookup = min(2 * search.wait, LATER), None
 
     def _pump(self, lookup: Lookup, now: float) -> None:
         """Asks who is next, as far as the bounds allow."""
@@ -205,7 +209,7 @@ class Talk:
         """Looks after the table: one node, or one bucket, at a time."""
         if (contact := self.table.questionable(now)) and not any(waiting.contact == contact for waiting in self._waiting.values()):
             self._ask(contact, Method.PING, now)
-        if not self._own_lookups and (target := self.table.stale(now)):
+        if not self._own_lookups and (target := self._far.pop(0) if self._far else self.table.stale(now)):
             lookup = Lookup(target, self.own, wants_peers=False)
             lookup.add(self.table.nearest(target))
             self._own_lookups.append(lookup)

@@ -1,0 +1,55 @@
+"""Finds peers for one download: by its trackers, the DHT, and web servers that have the content."""
+
+from __future__ import annotations
+
+import queue
+
+from .addresses import Origin, is_loopback
+from .blame import Address
+from .dht.node import Node
+from .dht.talk import Search
+from .parts import Parts
+from .reach import Reach
+
+
+class Finding:
+    """What looks for peers while a download runs. A private torrent keeps to its trackers (BEP 27)."""
+
+    def __init__(self, parts: Parts, reach: Reach | None) -> None:
+        self.parts = parts
+        self.node: Node | None = None
+        self._reach = reach
+        self._search: Search | None = None
+        self._found: queue.SimpleQueue[list[Address]] = queue.SimpleQueue()
+
+    @property
+    def knows_nobody(self) -> bool:
+        """Whether there is neither a peer nor anything that could find one."""
+        return not self.parts.swarm.addresses.known and not self.parts.announcer.tiers and self.node is None
+
+    def start(self) -> None:
+        """Looks from now on."""
+        parts = self.parts
+        if self._reach and not parts.is_private:
+            self.node = self._reach.node()
+        if self.node:
+            self._search = self.node.search(parts.content.infohash, parts.port, self._hear_of)
+            parts.session.dht_port, parts.session.on_node = self.node.port, self.node.greet
+
+    def _hear_of(self, peers: list[Address]) -> None:
+        """The DHT has found peers; its own thread says so."""
+        self._found.put(peers)
+        self.parts.swarm.wake()
+
+    def tick(self, now: float) -> None:
+        """Takes what was found, and announces where it is time for it."""
+        swarm, host = self.parts.swarm, self.parts.options.bind
+        for address in self.parts.announcer.tick(now, len(self.parts.session.peers)):
+            swarm.addresses.add(address)
+        while not self._found.empty():
+            swarm.addresses.hear(self._found.get(), Origin.DHT, (host, 0) if is_loopback(host) else None)
+
+    def close(self) -> None:
+        """Looks for nobody any more."""
+        if self.node and self._search:
+            self.node.end(self._search)
