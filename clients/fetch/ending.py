@@ -47,9 +47,11 @@ def _what(ending: Ending) -> str:
 
 
 def _why(ending: Ending) -> list[str]:
-    """Why nothing came, where nothing did."""
-    if ending.is_done or ending.came:
+    """Why not all came."""
+    if ending.is_done:
         return []
+    if ending.came:
+        return [f"why peers went. {ending.reasons}"] if ending.reasons else []
     if ending.reasons:
         return [f"no peer brought anything. {ending.reasons}"]
     if ending.knows_nobody:

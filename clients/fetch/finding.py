@@ -10,6 +10,7 @@ from .dht.node import Node
 from .dht.talk import Search
 from .parts import Parts
 from .reach import Reach
+from .webseeds import WebSeeds
 
 
 class Finding:
@@ -17,6 +18,7 @@ class Finding:
 
     def __init__(self, parts: Parts, reach: Reach | None) -> None:
         self.parts = parts
+        self.web_seeds = WebSeeds(parts)
         self.node: Node | None = None
         self._reach = reach
         self._search: Search | None = None
@@ -25,7 +27,8 @@ class Finding:
     @property
     def knows_nobody(self) -> bool:
         """Whether there is neither a peer nor anything that could find one."""
-        return not self.parts.swarm.addresses.known and not self.parts.announcer.tiers and self.node is None
+        found_by = (self.parts.swarm.addresses.known, self.parts.announcer.tiers, self.node, self.web_seeds.servers)
+        return not any(found_by)
 
     def start(self) -> None:
         """Looks from now on."""
@@ -48,6 +51,8 @@ class Finding:
             swarm.addresses.add(address)
         while not self._found.empty():
             swarm.addresses.hear(self._found.get(), Origin.DHT, (host, 0) if is_loopback(host) else None)
+
+        self.web_seeds.tick(now)
 
     def close(self) -> None:
         """Looks for nobody any more."""

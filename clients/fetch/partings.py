@@ -18,13 +18,21 @@ class Partings:
     def __init__(self) -> None:
         self.reasons: dict[Address, str] = {}
         self.givers: set[Address] = set()
+        self._awaited: dict[Address, str] = {}
         self.tell: Callable[[str], None] = lambda line: None  # where each one is told at once
 
+    def say_later(self, address: Address, reason: str) -> None:
+        """The true reason of a connection that will end; any thread may say it."""
+        self._awaited[address] = reason
+
     def note(self, address: Address, reason: str, has_given: bool = False) -> None:
-        """A connection ended, or none came about."""
-        self.tell(f"{name_of(address)}: {printable(reason)}")
+        """A connection ended, or none came about. Without a reason it was we who ended."""
+        reason = self._awaited.pop(address, reason)
         if has_given and len(self.givers) < MOST:
             self.givers.add(address)
+        if not reason:
+            return
+        self.tell(f"{name_of(address)}: {printable(reason)}")
         if address in self.reasons or len(self.reasons) < MOST:
             self.reasons[address] = reason
 

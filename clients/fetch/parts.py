@@ -98,7 +98,7 @@ class Parts:
         self.options, self.metainfo, self.is_private = options, metainfo, is_private(metainfo)
         self.metered = Metered(plain) if options.meters else None
         self.picker = cast(Picker, self.metered or plain)
-        self.layout = layout_of(plain)
+        self.layout, self.name = layout_of(plain), plain.name
         self.levels = file_levels(self.layout, options)
         self.root = root_of(options.out, plain.name, self.layout, is_folder(plain))
         self.lock = Lock(self.root)

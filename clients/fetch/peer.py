@@ -46,6 +46,7 @@ class Peer:
     hello: Hello = field(default_factory=Hello)  # what it said by the extension protocol
     exchange: Exchange = field(default_factory=Exchange)
     is_web: bool = False  # a web server, by a peer of this process
+    is_alone: bool = False  # it gets whole pieces, so that its ranges are long
     unsent: bytearray = field(default_factory=bytearray)
     events: int = 0  # of the selector
 

@@ -276,8 +276,16 @@ class Session:
         peer.pace.fill(answer.kind is Kind.PIPE_FULL, self.now)
         if answer.kind is Kind.NOTHING_LEFT:
             self._lose_interest(peer)
-        elif answer.kind is Kind.IDLE and not peer.asked and self.suspects.tell_off(peer):
+        elif answer.kind is Kind.IDLE and not peer.asked and (self.suspects.tell_off(peer) or self.set_alone(peer, False)):
             self.ask(peer)  # pieces that others have begun
+
+    def set_alone(self, peer: Peer, is_alone: bool) -> bool:
+        """A peer begins pieces of its own from now on, or works with the others again; whether that is new."""
+        if peer.is_alone == is_alone:
+            return False
+        peer.is_alone = is_alone
+        self.picker.alone(peer.worker, is_alone)
+        return True
 
     def _send_request(self, peer: Peer, block: tuple[int, int], answer: Answer) -> None:
         others = self.asks.get(block, 0)
@@ -351,6 +359,7 @@ class Session:
         if late:
             peer.by_rate.timed_out()
             self.suspects.tell_off(peer)
+            self.set_alone(peer, False)
             self._rest(peer)
 
     def _rest(self, peer: Peer) -> None:

@@ -123,6 +123,13 @@ class Swarm:
             return
         self._add(connection, where, is_incoming=True).is_connected = True
 
+    def attach(self, connection: socket.socket, address: Address) -> Peer:
+        """A peer of this process, which stands for a web server."""
+        connection.setblocking(False)
+        peer = self._add(connection, address, is_incoming=False)
+        peer.is_web = True
+        return peer
+
     def _add(self, connection: socket.socket, address: Address, is_incoming: bool) -> Peer:
         peer = Peer(connection, address, is_incoming, Inbound(self.session.layout.pieces), self.session.now)
         self.peers.add(peer)
@@ -138,8 +145,8 @@ class Swarm:
         """Who we are."""
         return Handshake(self.content.infohash, self.limits.peer_id, has_dht=self.session.dht_port > 0).spell()
 
-    def drop(self, peer: Peer, why: str = "the program ends") -> None:
-        """Ends a connection. `why` is for the user."""
+    def drop(self, peer: Peer, why: str = "") -> None:
+        """Ends a connection. `why` is for the user, and nothing where the program ends."""
         if peer not in self.peers:
             return
         self.partings.note(peer.address, why, peer.down.total > 0)
@@ -184,6 +191,8 @@ class Swarm:
         )  # fmt: skip
         self.connections += 1
         self.session.join(peer, worker)
+        if peer.is_web:
+            self.session.set_alone(peer, True)
 
     def _free_worker(self) -> int | None:
         """A worker's number that names the sender of no block of a begun piece, so that nobody is taken for another peer."""
