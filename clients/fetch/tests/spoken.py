@@ -25,6 +25,7 @@ def message(kind: int, *numbers: int, data: bytes = b"") -> bytes:
 class Speaking(unittest.TestCase):
     """One download for each test. Of the content so many pieces are there from the front on."""
 
+    torrent = single_torrent()
     had = 10
     most_peers = 50
 
@@ -33,7 +34,7 @@ class Speaking(unittest.TestCase):
         self.addCleanup(folder.cleanup)
         out = Path(folder.name, "out")
         Path(f"{out}.part").write_bytes(CONTENT[: self.had * PIECE])
-        self.download = Download(Options("", str(out), listens=False, asks_trackers=False, quiet=True, most_peers=self.most_peers), single_torrent())
+        self.download = Download(Options("", str(out), listens=False, asks_trackers=False, quiet=True, most_peers=self.most_peers), self.torrent)
         self.addCleanup(self.download.close)
         self.download.prepare()
         self.session = self.download.parts.session
