@@ -5,19 +5,25 @@ from __future__ import annotations
 import argparse
 import re
 from collections.abc import Callable
-from typing import TypeVar
+from typing import Any, TypeVar
 
 from . import addresses
 from .blame import Address
+from .magnet import PREFIX
 from .options import FIRST_NODES, Options
+from .web import is_address
 
 MOST_FILES = 1 << 20
+SINGLE = {
+    "peers": "HOST:PORT", "only": "--only", "levels": "--level", "serve": "--serve", "port": "--port", "picture": "--picture",
+    "watches": "--watch", "as_json": "--json", "with_figures": "--figures",
+}  # fmt: skip
 LIKE_ADDRESS = re.compile(r"[^/]+:[0-9]+")
-USAGE = "fetch.py [options] TORRENT [OUT] [HOST:PORT ..]"
+USAGE = "fetch.py [options] TORRENT [TORRENT ..] [OUT] [HOST:PORT ..]"
 DESCRIPTION = "Downloads a torrent (BEP 3), and shows how the piece picker chooses."
 ENDING = """\
 OUT is the file, or the folder of a torrent of many files. Without it the torrent's own name in this folder is taken. In a folder that is
-there the torrent's own name is taken too, unless an earlier run has begun the torrent's files in it.
+there the torrent's own name is taken too, unless an earlier run has begun the torrent's files in it. Of several torrents OUT is a folder.
 The status is 0 where all that is wanted is there, 1 where it isn't, 2 for a wrong command line, 3 for a metainfo file that can't be
 used, and 4 where the disk can't do it. A download that was ended goes on where it was when the same command is given again.
 """
@@ -89,6 +95,7 @@ def _amount(text: str) -> float:
 _port, _count = _between(0, 65535), _between(0, 1 << 30)
 # The library has room for 1,024 workers, and each peer may need two numbers.
 _peers = _between(1, 500)
+_slowest = _between(16, 1 << 30)  # a block a second
 
 
 def _add_choice(parser: argparse.ArgumentParser) -> None:
@@ -99,6 +106,7 @@ def _add_choice(parser: argparse.ArgumentParser) -> None:
     level = "file N has level L: 0 is not downloaded, 7 comes first, 4 is usual"
     what.add_argument("--level", type=_level, action="append", default=[], metavar="N=L", help=level)
     what.add_argument("--in-order", action="store_true", help="from the front to the end, and not the rarest first")
+    what.add_argument("--ends-first", action="store_true", help="the first and the last piece of each file before its others, for players")
     what.add_argument("--replace", action="store_true", dest="replaces", help="overwrite files that have another content")
 
 
@@ -111,6 +119,7 @@ def _add_swarm(parser: argparse.ArgumentParser) -> None:
     swarm.add_argument("--peers", type=_peers, dest="most_peers", default=50, metavar="N", help="connections at most, 50 by default")
     swarm.add_argument("--slots", type=_count, default=4, metavar="N", help="peers that are uploaded to at a time, 4 by default; 0 uploads nothing")
     swarm.add_argument("--up", type=_count, dest="up_limit", metavar="KB", help="upload so many kilobytes a second at most")
+    swarm.add_argument("--down", type=_slowest, dest="down_limit", metavar="KB", help="download so many kilobytes a second at most")
     swarm.add_argument("--no-tracker", action="store_false", dest="asks_trackers", help="ask no tracker")
     swarm.add_argument("--dht", action=argparse.BooleanOptionalAction, dest="uses_dht", default=True, help="find peers by the DHT (default)")
     node = "begin the way into the DHT at this node, and not at the public ones; may come several times"
@@ -125,6 +134,7 @@ def _add_ends(parser: argparse.ArgumentParser) -> None:
     ends = parser.add_argument_group("when it ends")
     ends.add_argument("--seed", type=_amount, dest="seed_ratio", metavar="RATIO", help="then upload until so many times the content is given")
     ends.add_argument("--seed-minutes", type=_amount, metavar="N", help="then upload for so many minutes")
+    ends.add_argument("--at-once", type=_between(1, 50), default=5, metavar="N", help="of several torrents so many at a time, 5 by default")
     ends.add_argument("--give-up", type=_amount, metavar="SECONDS", help="end when nothing has come for so long")
 
 
@@ -147,7 +157,7 @@ def _parser() -> argparse.ArgumentParser:
     raw = argparse.RawDescriptionHelpFormatter
     parser = argparse.ArgumentParser(prog="fetch.py", usage=USAGE, description=DESCRIPTION, epilog=ENDING, formatter_class=raw)
     parser.add_argument("torrent", metavar="TORRENT", help="a metainfo file, its http or https address, or a magnet link")
-    parser.add_argument("words", metavar="OUT, HOST:PORT", nargs="*", help="where the content goes, and peers beside those of the trackers")
+    parser.add_argument("words", metavar="OUT, HOST:PORT", nargs="*", help="where the content goes, peers that are known, and other torrents")
     parser.add_argument("--out", help="OUT by an option, for a name that looks like something else")
     _add_choice(parser)
     _add_swarm(parser)
@@ -156,15 +166,32 @@ def _parser() -> argparse.ArgumentParser:
     return parser
 
 
-def _sort(words: list[str], out: str | None) -> tuple[str, list[Address]]:
-    """OUT and the peers among these words. Raises ValueError."""
+def _is_torrent(word: str) -> bool:
+    """Whether a word behind the first one can be no more than another torrent."""
+    return word.endswith(".torrent") or is_address(word) or word.lower().startswith(PREFIX)
+
+
+def _sort(given: dict[str, Any]) -> None:
+    """Tells OUT, other torrents and peers apart. Raises ValueError."""
+    more: list[str] = []
     peers: list[Address] = []
-    for word in words:
-        if out is None and not LIKE_ADDRESS.fullmatch(word):
-            out = word
+    for word in given.pop("words"):
+        if _is_torrent(word):
+            more.append(word)
+        elif given["out"] is None and not LIKE_ADDRESS.fullmatch(word):
+            given["out"] = word
         else:
             peers.append(addresses.parse(word))
-    return out or "", peers
+    given |= {"out": given["out"] or "", "more": tuple(more), "peers": peers}
+    if more:
+        _refuse_single(given)
+
+
+def _refuse_single(given: dict[str, Any]) -> None:
+    """What is for one torrent alone can't stand beside several ones."""
+    for name, option in SINGLE.items():
+        if given[name]:
+            raise ValueError(f"{option} is for one torrent, and there are {1 + len(given['more'])}")
 
 
 def read(words: list[str]) -> Options:
@@ -174,7 +201,7 @@ def read(words: list[str]) -> Options:
     given["levels"] = dict(given.pop("level"))
     given["dht_nodes"] = tuple(given["dht_nodes"]) or FIRST_NODES
     try:
-        given["out"], given["peers"] = _sort(given.pop("words"), given["out"])
+        _sort(given)
     except ValueError as fault:
         parser.error(str(fault))
     return Options(**given)

@@ -8,9 +8,13 @@ from collections.abc import Iterable
 from typing import Any
 
 from .addresses import Origin, looked_up
+from .choosing import Chooser
 from .ending import Ending
 from .finding import Finding
-from .layout import levels_of, printable
+from .keys import Keyboard
+from .layout import printable
+from .levels import Levels
+from .limits import Bounds
 from .options import Options
 from .parts import Parts, why_not
 from .picture import draw
@@ -22,6 +26,7 @@ from .serving import Gate, Server, Urgent
 from .watch import Watch
 
 SAVE_SECONDS = 2.0
+STATE_SECONDS = 0.25  # between two looks at how far it is
 
 
 class Interrupted(Exception):
@@ -31,20 +36,22 @@ class Interrupted(Exception):
 class Download:
     """Runs the parts. `prepare` comes first, then `run`, and `close` in any case."""
 
-    def __init__(self, options: Options, metainfo: bytes, reach: Reach | None = None) -> None:
-        self.options, self.parts = options, Parts(options, metainfo)
+    def __init__(self, options: Options, metainfo: bytes, reach: Reach | None = None, bounds: Bounds | None = None) -> None:
+        self.options, self.parts = options, Parts(options, metainfo, bounds)
         self.finding = Finding(self.parts, reach)
         self.progress = Progress(options.quiet or options.watches)
         self.watch = Watch() if options.watches else None
         if options.is_verbose and not options.watches:
             self.parts.swarm.partings.tell = self.progress.say
         self.server: Server | None = None
-        self.urgent: Urgent | None = None
+        self.levels = Levels(self.parts)
+        self.chooser = Chooser(self.parts.layout.files, self.levels.choose)
+        self.keyboard = Keyboard() if options.watches else None
         self.began = time.monotonic()
         self.finished: float | None = None
         self.restored_count = 0
-        self.wanted: list[int] = []  # pieces
-        self._saved = 0.0
+        self.latest = State(0, 0, 0.0, 0.0, 0)
+        self._saved = self._stated = 0.0
         self._has_told = False  # that the state can't be written
         self._newest = self.began  # when a block came last
 
@@ -54,13 +61,10 @@ class Download:
         parts.content.restore(self._tell_check, self.options.replaces)
         self.progress.end()
         self.restored_count = parts.content.had_count
-        parts.storage.prepare(parts.wanted_files)
-        levels = levels_of(parts.layout, parts.levels)
-        self.wanted = [piece for piece, level in enumerate(levels) if level > 0]
-        parts.picker.set_levels(levels)
+        self.levels.set()
         parts.picker.set_in_order(self.options.in_order)
         if self.options.serve is not None:
-            self._serve(self.options.serve, levels)
+            self._serve(self.options.serve)
         for address in self.options.peers:
             parts.swarm.addresses.add(looked_up(address), Origin.USER)
         self.finding.start()
@@ -72,14 +76,14 @@ class Download:
         if self.parts.swarm.is_stopping:
             raise Interrupted
 
-    def _serve(self, port: int, levels: bytes) -> None:
+    def _serve(self, port: int) -> None:
         """Lets players read. Raises ValueError where the port can't be had."""
         gate = Gate(self.parts.content, self.parts.swarm.wake)
         try:
             self.server = Server(port, gate)
         except OSError as error:
             raise ValueError(why_not(error, port, "--serve")) from error
-        self.urgent = Urgent(gate, self.parts.session, levels, self.options.in_order)
+        self.levels.urgent = Urgent(gate, self.parts.session, self.levels.pieces, self.options.in_order)
         self.parts.swarm.on_verdict = lambda verdict: gate.came()
         self.server.start()
         self.progress.say(f"players find the files at {self.server.url}")
@@ -94,18 +98,28 @@ class Download:
                 self._saved = now
                 self._save()
             self.finding.tick(now)
-            if self.urgent:
-                self.urgent.tick()
+            if self.levels.urgent:
+                self.levels.urgent.tick()
+            self._look_at_keys()
+            if now - self._stated >= STATE_SECONDS:
+                self._stated, self.latest = now, self.state(now)
             if self.watch and self.watch.is_due(now):
-                self.watch.draw(session, line(self.state(now)))
+                self.watch.draw(session, line(self.latest), self.chooser, self.levels.rows)
             if self.progress.is_due(now):
-                self.progress.show(self.state(now), now)
+                self.progress.show(self.latest, now)
         return parts.picker.has_wanted
+
+    def _look_at_keys(self) -> None:
+        """The user may choose files while the drawing is shown."""
+        if self.keyboard and self.watch and self.chooser.hit(self.keyboard.hit(), self.parts.levels):
+            self.watch.draw_soon()
+        if self.chooser.is_over:
+            self.parts.swarm.is_stopping = True
 
     @property
     def is_part(self) -> bool:
         """Whether some pieces aren't wanted."""
-        return len(self.wanted) < self.parts.layout.pieces
+        return len(self.levels.wanted) < self.parts.layout.pieces
 
     def _bytes_of(self, pieces: Iterable[int]) -> int:
         """The bytes of these pieces."""
@@ -117,7 +131,8 @@ class Download:
         if self.parts.picker.has_wanted:
             if self.finished is None:
                 self._finish(now)
-            return not self._seeds_on(now)
+            return not self._seeds_on(now) and not self.chooser.is_open
+        self.finished = None
         self._newest = max([self._newest, *(peer.block_came for peer in self.parts.session.peers.values())])
         return self.options.give_up is not None and now - self._newest > self.options.give_up
 
@@ -151,18 +166,20 @@ class Download:
         """What the progress line tells."""
         content, peers = self.parts.content, self.parts.session.peers.values()
         return State(
-            done=self._bytes_of(filter(content.has, self.wanted)) if self.is_part else content.had_bytes,
-            wanted=self._bytes_of(self.wanted) if self.is_part else self.parts.layout.total,
+            done=self._bytes_of(filter(content.has, self.levels.wanted)) if self.is_part else content.had_bytes,
+            wanted=self._bytes_of(self.levels.wanted) if self.is_part else self.parts.layout.total,
             down=sum(peer.down.per_second(now) for peer in peers),
             up=sum(peer.up.per_second(now) for peer in peers),
             peers=len(peers),
-            pieces_done=sum(map(content.has, self.wanted)) if self.is_part else content.had_count,
-            pieces=len(self.wanted),
+            pieces_done=sum(map(content.has, self.levels.wanted)) if self.is_part else content.had_count,
+            pieces=len(self.levels.wanted),
             note=self.parts.announcer.note,
         )
 
     def close(self) -> None:
         """Ends all, and writes the state."""
+        if self.keyboard:
+            self.keyboard.close()
         if self.watch:
             self.watch.close()
         if self.server:

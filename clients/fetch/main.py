@@ -5,27 +5,15 @@ from __future__ import annotations
 import os
 import sys
 from contextlib import closing, suppress
-from enum import IntEnum
 
 from . import command_line, listing
+from .faults import Ended, fault_of
 from .layout import printable
-from .metainfo import MetainfoFault
 from .options import Options
 from .progress import Progress
 from .reach import Reach
 from .signals import ends_in_order
-from .source import NotFound, obtain
-from .storage import StorageFault
-
-
-class Ended(IntEnum):
-    """The statuses of the program."""
-
-    DONE = 0
-    NOT_DONE = 1
-    WRONG_LINE = 2
-    WRONG_METAINFO = 3
-    WRONG_DISK = 4
+from .source import obtain
 
 
 def try_picture(path: str) -> None:
@@ -38,18 +26,32 @@ def try_picture(path: str) -> None:
             os.unlink(path)
 
 
+def list_files(options: Options) -> None:
+    """Prints the files of each torrent."""
+    with closing(Reach(options)) as reach, closing(Progress(options.quiet)) as progress:
+        for torrent in (options.torrent, *options.more):
+            source = obtain(options.of(torrent), reach, ends_in_order, progress.tell)
+            progress.end()
+            print("\n".join([*([torrent] if options.more else []), *listing.lines(source.metainfo)]))
+
+
 def download(options: Options) -> Ended:
     """Does what the options say."""
+    if options.lists:
+        list_files(options)
+        return Ended.DONE
     if options.picture:
         try_picture(options.picture)
+    from .running import fetch  # the first thing that needs the library
+    from .several import Several
+
     with closing(Reach(options)) as reach, closing(Progress(options.quiet)) as progress:
+        if options.more:
+            several = Several(options, reach)
+            with ends_in_order(several):
+                return several.run()
         source = obtain(options, reach, ends_in_order, progress.tell)
         progress.end()
-        if options.lists:
-            print("\n".join(listing.lines(source.metainfo)))
-            return Ended.DONE
-        from .running import fetch  # the first thing that needs the library
-
         return Ended.DONE if fetch(source, options, reach) else Ended.NOT_DONE
 
 
@@ -57,20 +59,12 @@ def run(options: Options) -> Ended:
     """The same, where a fault that the user can do something about has a text and a status."""
     try:
         return download(options)
-    except NotFound as fault:
-        status, text = Ended.NOT_DONE, str(fault)
-    except MetainfoFault as fault:
-        status, text = Ended.WRONG_METAINFO, str(fault)
-    except StorageFault as fault:
-        status, text = Ended.WRONG_DISK, str(fault)
-    except MemoryError:
-        status, text = Ended.WRONG_DISK, "there is no memory for the picker"
-    except (ValueError, ImportError) as fault:
-        status, text = Ended.WRONG_LINE, str(fault)
-    except OSError as error:
-        status, text = Ended.WRONG_LINE, f"{error.filename or 'a socket'}: {error.strerror}"
-    print(f"fetch.py: {printable(text)}", file=sys.stderr)
-    return status
+    except Exception as error:
+        fault = fault_of(error)
+        if fault is None:
+            raise
+        print(f"fetch.py: {printable(fault.text)}", file=sys.stderr)
+        return fault.status
 
 
 def main() -> int:

@@ -2,7 +2,7 @@
 
 from __future__ import annotations
 
-from dataclasses import dataclass, field
+from dataclasses import dataclass, field, replace
 
 from .blame import Address
 
@@ -17,17 +17,21 @@ class Options:
     torrent: str
     out: str = ""  # the torrent's own name where it is empty
     peers: list[Address] = field(default_factory=list)
+    more: tuple[str, ...] = ()  # other torrents
+    at_once: int = 5  # torrents
     lists: bool = False
     only: set[int] | None = None
     levels: dict[int, int] = field(default_factory=dict)
     in_order: bool = False
+    ends_first: bool = False
     serve: int | None = None
     port: int | None = None
     bind: str = ""
     listens: bool = True
     most_peers: int = 50
     slots: int = 4
-    up_limit: int | None = None
+    up_limit: int | None = None  # kilobytes a second
+    down_limit: int | None = None
     asks_trackers: bool = True
     uses_dht: bool = False
     dht_nodes: tuple[Address, ...] = ()  # where the way into the DHT begins
@@ -46,3 +50,7 @@ class Options:
     quiet: bool = False
     meters: bool = False
     askers: int = 2
+
+    def of(self, torrent: str) -> Options:
+        """The same choices for another torrent."""
+        return replace(self, torrent=torrent, more=())

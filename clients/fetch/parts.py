@@ -17,6 +17,7 @@ from .content import Content
 from .extensions import Extensions
 from .identity import NO_PORT, new_peer_id
 from .layout import File, Layout
+from .limits import Bounds, bounds_of
 from .lock import Lock
 from .metainfo import MetainfoFault, files_of, info_of, is_folder, is_private, trackers_of
 from .meter import Metered
@@ -93,7 +94,8 @@ def file_levels(layout: Layout, options: Options) -> dict[int, int]:
 class Parts:
     """What a download is made of. `metered` is the picker itself where its calls are counted."""
 
-    def __init__(self, options: Options, metainfo: bytes) -> None:
+    def __init__(self, options: Options, metainfo: bytes, bounds: Bounds | None = None) -> None:
+        self.bounds = bounds or bounds_of(options.up_limit, options.down_limit)
         plain = open_picker(metainfo, options)
         self.options, self.metainfo, self.is_private = options, metainfo, is_private(metainfo)
         self.metered = Metered(plain) if options.meters else None
@@ -116,13 +118,13 @@ class Parts:
         self.storage = Storage(self.root, self.layout, is_folder)
         self.checker = Checker(self.storage, lambda: self.swarm.wake())
         self.content = Content(self.picker, self.layout, self.storage, self.checker, self.root + STATE_SUFFIX)
-        self.uploads = Uploads(self.content, None if options.up_limit is None else 1000 * options.up_limit)
+        self.uploads = Uploads(self.content, self.bounds.up)
         self.recorder = Recorder(self.picker, self.layout) if options.picture else None
         self.port = int(listener.getsockname()[1]) if listener else 0
         self.extensions = Extensions(info_of(self.metainfo), self.port, options.exchanges_peers and not self.is_private, self._hear_of)
         self.session = Session(self.content, self.uploads, self.recorder, self.extensions)
         limits = Limits(new_peer_id(), options.most_peers, options.slots, options.bind)
-        self.swarm = Swarm(self.session, Addresses(), limits, listener)
+        self.swarm = Swarm(self.session, Addresses(), limits, listener, self.bounds.down)
         tiers = trackers_of(self.metainfo) if options.asks_trackers else []
         self.announcer = Announcer(tiers, self._announce, self.swarm.wake, options.bind)
         self._key = secrets.randbits(32)

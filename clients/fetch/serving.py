@@ -116,6 +116,13 @@ class Urgent:
             self._looked = self.session.now
             self._set_reaches()
 
+    def set_own_levels(self, levels: bytes) -> None:
+        """The pieces have other levels of their own, which the picker was told; those before readers are raised again."""
+        self.levels = levels
+        self._told = bits_of((piece for piece, level in enumerate(levels) if level >= URGENT), len(self.session.content.had))
+        for piece in self.raised:
+            self.session.picker.set_level(piece, self._level(piece))
+
     def _set_order(self, has_reader: bool) -> None:
         """The newest of these two calls holds."""
         if has_reader:

@@ -16,7 +16,7 @@ class Loop(Protocol):
 
     @property
     def wake_handle(self) -> int:
-        """The handle."""
+        """The handle; -1 where no wait is long."""
 
 
 @contextmanager
@@ -29,7 +29,8 @@ def ends_in_order(loop: Loop) -> Iterator[None]:
 
     for number in (signal.SIGINT, signal.SIGTERM):
         signal.signal(number, handle)
-    signal.set_wakeup_fd(loop.wake_handle, warn_on_full_buffer=False)
+    if loop.wake_handle >= 0:
+        signal.set_wakeup_fd(loop.wake_handle, warn_on_full_buffer=False)
     try:
         yield
     finally:

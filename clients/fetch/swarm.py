@@ -15,6 +15,8 @@ from .addresses import Addresses
 from .blame import Address
 from .choking import ROUND, Candidate, Choker
 from .content import Verdict
+from .limits import Limit
+from .lingering import linger
 from .partings import Partings
 from .peer import Peer
 from .session import Session
@@ -24,9 +26,9 @@ HANDSHAKE_SECONDS = 10.0  # until the handshakes have to be exchanged
 QUIET_SECONDS = 180.0  # with no byte from a peer, until it is let go
 STUCK_SECONDS = 120.0  # with no byte taken by a peer
 KEEPALIVE_SECONDS = 100.0
-LINGER_SECONDS = 1.0  # at the end, for peers to read what was sent to them
 MOST_CONNECTING = 10
 MOST_BACKLOG = 1 << 20  # bytes unsent, above which nothing more is read from a peer
+HELD_SECONDS = 20.0  # with no word on time-outs, after the limit was reached
 READ = 1 << 18  # bytes that are read at a time
 TICK = 0.2  # seconds
 SLOW_TICK = 1.0
@@ -54,7 +56,11 @@ class Limits:
 class Swarm:
     """The connections of one download."""
 
-    def __init__(self, session: Session, addresses: Addresses, limits: Limits, listener: socket.socket | None) -> None:
+    def __init__(
+        self, session: Session, addresses: Addresses, limits: Limits, listener: socket.socket | None, down: Limit | None = None
+    ) -> None:
+        self.down = down or Limit(None)
+        self._held = -HELD_SECONDS  # when something that came wasn't read since the limit was reached
         self.session, self.addresses, self.limits, self.listener = session, addresses, limits, listener
         self.content = session.content
         self.choker = Choker(limits.slots)
@@ -205,8 +211,11 @@ class Swarm:
 
     def _receive(self, peer: Peer) -> None:
         """Reads what came. A peer that breaks the protocol is let go."""
+        if not self.down.allows(self.session.now):
+            self._held = self.session.now
+            return
         try:
-            data = peer.connection.recv(READ)
+            data = peer.connection.recv(self.down.room(READ))
         except (BlockingIOError, InterruptedError):
             return
         except OSError as error:
@@ -216,6 +225,7 @@ class Swarm:
             self.drop(peer, CLOSED if peer.is_joined else CLOSED_EARLY)
             return
         peer.is_connected = True
+        self.down.take(len(data))
         try:
             if not peer.is_joined:
                 handshake = peer.inbound.handshake(data)
@@ -247,7 +257,7 @@ class Swarm:
     def _watch(self, peer: Peer) -> None:
         """Tells the selector what is awaited of a peer."""
         events = selectors.EVENT_WRITE if peer.unsent or not peer.is_connected else 0
-        if len(peer.unsent) < MOST_BACKLOG:
+        if len(peer.unsent) < MOST_BACKLOG and self.down.allows(self.session.now):
             events |= selectors.EVENT_READ
         if events != peer.events:
             peer.events = events
@@ -327,6 +337,8 @@ class Swarm:
             return "takes nothing"
         if now - peer.heard > QUIET_SECONDS:
             return "is silent"
+        if now - self._held < HELD_SECONDS:
+            return ""  # what it sent may wait for us
         return "" if self.session.time_out(peer) else "doesn't bring what it is asked for"
 
     def _is_useless(self, peer: Peer) -> bool:
@@ -352,37 +364,13 @@ class Swarm:
             else:
                 self.session.uploads.choke(peer)
 
-    def _linger(self) -> None:
-        """Lets the peers read what was sent last: a connection that is closed with something unread in it takes that away."""
-        for other in filter(None, (self.listener, self._woken)):
-            self.selector.unregister(other)
-        for peer in list(self.peers):
-            try:
-                peer.connection.shutdown(socket.SHUT_WR)
-            except OSError:
-                self.drop(peer)
-        end = time.monotonic() + LINGER_SECONDS
-        while self.peers and (left := end - time.monotonic()) > 0:
-            for key, _ in self.selector.select(left):
-                if not self._discard(key.data):
-                    self.drop(key.data)
-
-    def _discard(self, peer: Peer) -> bool:
-        """Reads what came and forgets it; whether the connection lasts."""
-        peer.events = selectors.EVENT_READ
-        self.selector.modify(peer.connection, peer.events, peer)
-        try:
-            return bool(peer.connection.recv(READ))
-        except (BlockingIOError, InterruptedError):
-            return True
-        except OSError:
-            return False
-
     def close(self) -> None:
         """Ends all connections."""
         self.is_closing = True
         if self.session.uploads.total:
-            self._linger()
+            for other in filter(None, (self.listener, self._woken)):
+                self.selector.unregister(other)
+            linger(self.selector, self.peers, self.drop)
         for peer in list(self.peers):
             self.drop(peer)
         self.selector.close()

@@ -4,10 +4,11 @@ from __future__ import annotations
 
 import shutil
 import sys
-from collections.abc import Sequence
+from collections.abc import Callable, Sequence
 from dataclasses import dataclass
 from typing import TextIO
 
+from .choosing import Chooser, Row
 from .peer import Peer
 from .progress import size
 from .session import Session
@@ -82,7 +83,7 @@ def line_of(peer: Peer, number: int, pieces: int, now: float) -> str:
 
 LEGEND = (
     "█ complete  ▒ asked of the peer with that colour  3 so many peers show it  ! nobody has it",
-    "state: c chokes us, i we are interested, C we choke it, I it is interested",
+    "state: c chokes us, i we are interested, C we choke it, I it is interested.  f lists the files, q ends",
 )
 HEAD = "  peer                  prog  has        down          up   asked  state pieces that are asked for"
 
@@ -124,14 +125,18 @@ class Watch:
         """Whether it is time to draw again."""
         return self.shows and now - self._drawn >= EACH
 
-    def draw(self, session: Session, head: str) -> None:
-        """Draws the whole screen."""
+    def draw_soon(self) -> None:
+        """Something is to be seen at once."""
+        self._drawn = 0.0
+
+    def draw(self, session: Session, head: str, chooser: Chooser, rows: Callable[[], list[Row]]) -> None:
+        """Draws the whole screen: the pieces and the peers, or the files."""
         self._drawn = session.now
         if not self._is_open:
             self._is_open = True
             self.stream.write("\x1b[?1049h\x1b[?25l\x1b[2J")
         width, height = shutil.get_terminal_size()
-        lines = screen(session, head, width, height)
+        lines = [head[:width], *chooser.lines(rows(), width, height - 1)] if chooser.is_open else screen(session, head, width, height)
         self.stream.write("\x1b[H" + "".join(line + "\x1b[K\r\n" for line in lines) + "\x1b[J")
         self.stream.flush()
 

@@ -28,13 +28,15 @@ class Speaking(unittest.TestCase):
     torrent = single_torrent()
     had = 10
     most_peers = 50
+    choices: dict[str, Any] = {}  # other options
 
     def setUp(self) -> None:
         folder = tempfile.TemporaryDirectory()
         self.addCleanup(folder.cleanup)
         out = Path(folder.name, "out")
         Path(f"{out}.part").write_bytes(CONTENT[: self.had * PIECE])
-        self.download = Download(Options("", str(out), listens=False, asks_trackers=False, quiet=True, most_peers=self.most_peers), self.torrent)
+        options = Options("", str(out), listens=False, asks_trackers=False, quiet=True, most_peers=self.most_peers, **self.choices)
+        self.download = Download(options, self.torrent)
         self.addCleanup(self.download.close)
         self.download.prepare()
         self.session = self.download.parts.session

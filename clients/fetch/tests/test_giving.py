@@ -10,7 +10,7 @@ from pathlib import Path
 from typing import Any, cast
 
 from fetch.peer import Peer
-from fetch.uploads import Limit
+from fetch.limits import Limit
 from fetch.wire import Inbound
 
 from .spoken import Speaking, message
