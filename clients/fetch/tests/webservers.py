@@ -20,8 +20,8 @@ class Quiet(http.server.ThreadingHTTPServer):
 class WebServer:
     """Gives these files by their paths. `lies` says how it misbehaves."""
 
-    def __init__(self, files: dict[str, bytes], lies: str = "", host: str = "127.0.0.1") -> None:
-        self.files, self.lies = files, lies
+    def __init__(self, files: dict[str, bytes], lies: str = "", host: str = "127.0.0.1", with_query: bool = True) -> None:
+        self.files, self.lies, self.with_query = files, lies, with_query
         self.requests: list[tuple[str, str]] = []  # the path and the range of each
         server = self
 
@@ -50,7 +50,7 @@ class WebServer:
             handler.send_header("Content-Length", "0")
             handler.end_headers()
             return
-        content = self.files.get(handler.path)
+        content = self.files.get(handler.path if self.with_query else handler.path.partition("?")[0])
         if content is None:
             handler.send_error(404)
             return
