@@ -6,7 +6,7 @@ import json
 import sys
 from typing import Any
 
-from .download import Download, Interrupted
+from .transfer import Interrupted, Transfer
 from .ending import told
 from .options import Options
 from .reach import Reach
@@ -26,7 +26,7 @@ def show_figures(figures: dict[str, Any], as_json: bool) -> None:
             print(name, value)
 
 
-def show_end(download: Download, is_done: bool, options: Options) -> None:
+def show_end(download: Transfer, is_done: bool, options: Options) -> None:
     """Prints the figures, or the line for a person. Why it isn't done is said in any case."""
     lines = told(download.ending())
     if options.as_json or options.with_figures:
@@ -39,7 +39,7 @@ def show_end(download: Download, is_done: bool, options: Options) -> None:
 
 def fetch(source: Source, options: Options, reach: Reach) -> bool:
     """One download; whether all that is wanted is there."""
-    download = Download(options, source.metainfo, reach)
+    download = Transfer(options, source.metainfo, reach)
     for address, origin in source.peers:
         download.parts.swarm.addresses.add(address, origin)
     try:

@@ -10,7 +10,7 @@ from collections.abc import Iterator
 from contextlib import contextmanager
 from dataclasses import dataclass, replace
 
-from .download import Download, Interrupted
+from .transfer import Interrupted, Transfer
 from .ending import told
 from .faults import Ended, Fault, fault_of
 from .layout import printable
@@ -30,7 +30,7 @@ class Job:
 
     options: Options
     loop: Loop | None = None
-    download: Download | None = None
+    download: Transfer | None = None
     is_begun: bool = False
     ended: Ended | None = None
 
@@ -103,7 +103,7 @@ class Several:
 
     def _run(self, job: Job) -> Ended:
         source = obtain(job.options, self.reach, job.guard, lambda text: None)
-        download = job.download = Download(job.options, source.metainfo, self.reach, self.bounds)
+        download = job.download = Transfer(job.options, source.metainfo, self.reach, self.bounds)
         for address, origin in source.peers:
             download.parts.swarm.addresses.add(address, origin)
         try:

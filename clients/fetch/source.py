@@ -4,7 +4,7 @@ from __future__ import annotations
 
 import time
 from collections.abc import Callable
-from contextlib import AbstractContextManager, suppress
+from contextlib import AbstractContextManager, closing, suppress
 from dataclasses import dataclass, field
 
 from . import magnet, web
@@ -40,13 +40,67 @@ class Source:
     peers: list[tuple[Address, Origin]] = field(default_factory=list)
 
 
-def obtain(options: Options, reach: Reach, guard: Guard, tell: Callable[[str], None]) -> Source:
-    """The torrent that the options name. Raises OSError, MetainfoFault and NotFound.
+class Following:
+    """A magnet link that is followed, turn by turn, until a peer has given the info dictionary."""
 
-    `guard` is entered with what can be stopped while a magnet link is followed, and `tell` gets a line now and then.
-    """
-    if options.torrent.lower().startswith(magnet.PREFIX):
-        return _follow(magnet.parse(options.torrent), options, reach, guard, tell)
+    def __init__(self, link: Magnet, options: Options, reach: Reach) -> None:
+        self.link, self.options = link, options
+        self.seeker = seeker = Seeker(link.infohash, new_peer_id(), options.bind)
+        self.node = reach.node()
+        trackers = [[url] for url in link.trackers] if options.asks_trackers else []
+        seeker.announcer = Announcer(trackers, self._announce, seeker.wake, options.bind)
+        self._search = self.node.search(link.infohash, 0, seeker.hear_of) if self.node else None
+        self._began = time.monotonic()
+        for address in options.peers:
+            seeker.addresses.add(looked_up(address), Origin.USER)
+        for address in link.peers:
+            with suppress(ValueError):  # a name that nobody knows
+                seeker.addresses.add(looked_up(address), Origin.USER)
+
+    def _announce(self, event: Event) -> Announce:
+        return Announce(self.link.infohash, self.seeker.peer_id, NO_PORT, 0, 0, UNKNOWN_LEFT, event, 0)
+
+    def turn(self) -> Source | None:
+        """One turn of the loop; the torrent once it is there. Raises NotFound where nobody can give it, or the user ends it."""
+        seeker, give_up = self.seeker, self.options.give_up
+        if not (seeker.addresses.known or self.node or (seeker.announcer and seeker.announcer.tiers)):
+            raise NotFound("no peer is known: HOST:PORT behind OUT names one")
+        seeker.turn()
+        if seeker.info is not None:
+            return self._source(seeker.info)
+        if seeker.is_stopping or (give_up is not None and time.monotonic() - self._began > give_up):
+            raise NotFound(f"nobody gave the info of the magnet link. {seeker.partings.line() or 'no peer was found'}")
+        return None
+
+    def _source(self, info: bytes) -> Source:
+        """The torrent, and the peers. A private one has those of its trackers and of the user alone (BEP 27)."""
+        metainfo = metainfo_of(info, [[url] for url in self.link.trackers], self.link.web_seeds)
+        origins = {Origin.USER, Origin.TRACKER} if is_private(metainfo) else set(Origin)
+        known = self.seeker.addresses.known.values()
+        return Source(metainfo, [(peer.address, peer.origin) for peer in known if peer.origin in origins])
+
+    @property
+    def line(self) -> str:
+        """How far it is."""
+        seeker = self.seeker
+        connected = sum(link.is_connected for link in seeker.links)
+        nodes = f", {self.node.nodes} nodes of the DHT" if self.node else ""
+        return f"looking for the torrent's info: {connected} of {len(seeker.addresses.known)} peers{nodes}"
+
+    def close(self) -> None:
+        """Ends."""
+        self.seeker.close()
+        if self.node and self._search:
+            self.node.end(self._search)
+
+
+def is_magnet(torrent: str) -> bool:
+    """Whether it is a magnet link."""
+    return torrent.lower().startswith(magnet.PREFIX)
+
+
+def read(options: Options) -> Source:
+    """The torrent of a file, or of an address of the web. Raises OSError and MetainfoFault."""
     if web.is_address(options.torrent):
         try:
             metainfo = web.get(options.torrent, LARGEST_BY_WEB, WEB_SECONDS, options.bind)
@@ -60,48 +114,14 @@ def obtain(options: Options, reach: Reach, guard: Guard, tell: Callable[[str], N
     return Source(metainfo)
 
 
-def _follow(link: Magnet, options: Options, reach: Reach, guard: Guard, tell: Callable[[str], None]) -> Source:
-    """Finds the info dictionary of a magnet link."""
-    seeker = Seeker(link.infohash, new_peer_id(), options.bind)
-    for address in options.peers:
-        seeker.addresses.add(looked_up(address), Origin.USER)
-    for address in link.peers:
-        with suppress(ValueError):  # a name that nobody knows
-            seeker.addresses.add(looked_up(address), Origin.USER)
-    node = reach.node()
-    if not seeker.addresses.known and not node and not (link.trackers and options.asks_trackers):
-        raise NotFound("no peer is known: HOST:PORT behind OUT names one")
+def obtain(options: Options, reach: Reach, guard: Guard, tell: Callable[[str], None]) -> Source:
+    """The torrent that the options name. Raises OSError, MetainfoFault and NotFound.
 
-    def announce(event: Event) -> Announce:
-        return Announce(link.infohash, seeker.peer_id, NO_PORT, 0, 0, UNKNOWN_LEFT, event, 0)
-
-    seeker.announcer = Announcer([[url] for url in link.trackers] if options.asks_trackers else [], announce, seeker.wake, options.bind)
-    search = node.search(link.infohash, 0, seeker.hear_of) if node else None
-    try:
-        with guard(seeker):
-            info = _wait(seeker, options.give_up, lambda: tell(_line(seeker, node.nodes if node else 0)))
-    finally:
-        seeker.close()
-        if node and search:
-            node.end(search)
-    metainfo = metainfo_of(info, [[url] for url in link.trackers], link.web_seeds)
-    only = {Origin.USER, Origin.TRACKER} if is_private(metainfo) else set(Origin)
-    return Source(metainfo, [(known.address, known.origin) for known in seeker.addresses.known.values() if known.origin in only])
-
-
-def _line(seeker: Seeker, nodes: int) -> str:
-    """How far it is."""
-    connected = sum(link.is_connected for link in seeker.links)
-    return f"looking for the torrent's info: {connected} of {len(seeker.addresses.known)} peers, {nodes} nodes of the DHT"
-
-
-def _wait(seeker: Seeker, give_up: float | None, tell: Callable[[], None]) -> bytes:
-    """The info dictionary. Raises NotFound where the user ends it, or after so many seconds."""
-    began = time.monotonic()
-    while seeker.info is None:
-        seeker.turn()
-        tell()
-        if seeker.is_stopping or (give_up is not None and time.monotonic() - began > give_up):
-            why = seeker.partings.line() or "no peer was found"
-            raise NotFound(f"nobody gave the info of the magnet link. {why}")
-    return seeker.info
+    `guard` is entered with what can be stopped while a magnet link is followed, and `tell` gets a line now and then.
+    """
+    if not is_magnet(options.torrent):
+        return read(options)
+    with closing(Following(magnet.parse(options.torrent), options, reach)) as following, guard(following.seeker):
+        while (source := following.turn()) is None:
+            tell(following.line)
+        return source

@@ -8,7 +8,7 @@ import unittest
 from pathlib import Path
 from typing import Any, cast
 
-from fetch.download import Download
+from fetch.transfer import Transfer
 from fetch.options import Options
 from fetch.peer import Peer
 from fetch.wire import Inbound
@@ -36,7 +36,7 @@ class Speaking(unittest.TestCase):
         out = Path(folder.name, "out")
         Path(f"{out}.part").write_bytes(CONTENT[: self.had * PIECE])
         options = Options("", str(out), listens=False, asks_trackers=False, quiet=True, most_peers=self.most_peers, **self.choices)
-        self.download = Download(options, self.torrent)
+        self.download = Transfer(options, self.torrent)
         self.addCleanup(self.download.close)
         self.download.prepare()
         self.session = self.download.parts.session

@@ -11,7 +11,7 @@ from typing import Any, cast
 from bencode import bencode
 from fetch.addresses import MOST_FAILURES, MOST_OF, Addresses, Origin
 from fetch.dht.node import Node
-from fetch.download import Download
+from fetch.transfer import Transfer
 from fetch.exchange import Exchange, read, spell
 from fetch.extended import Extension
 from fetch.options import Options
@@ -157,7 +157,7 @@ class Private(Speaking):
             options = Options("", f"{self.download.parts.root}-{begins}", listens=False, quiet=True, uses_dht=True, bind="127.0.0.1", port=0)
             reach = Reach(options)
             self.addCleanup(reach.close)
-            download = Download(options, torrent, reach)
+            download = Transfer(options, torrent, reach)
             self.addCleanup(download.close)
             download.prepare()
             self.assertEqual(download.finding.node is not None, begins)

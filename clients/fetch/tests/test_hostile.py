@@ -17,7 +17,7 @@ import unittest
 from pathlib import Path
 from typing import Any, cast
 
-from fetch.download import Download
+from fetch.transfer import Transfer
 from fetch.options import Options
 from fetch.peer import Peer
 from fetch.wire import Inbound, WireFault
@@ -93,7 +93,7 @@ class InProcess(unittest.TestCase):
         self.addCleanup(folder.cleanup)
         self.out = Path(folder.name, "out")
         options = Options("", str(self.out), listens=False, asks_trackers=False, quiet=True)
-        self.download = Download(options, single_torrent())
+        self.download = Transfer(options, single_torrent())
         self.addCleanup(self.download.close)
         self.download.prepare()
 
