@@ -31,7 +31,12 @@ from dataclasses import dataclass, field
 from pathlib import Path
 from typing import IO
 
-from others import LOCAL, NETWORK, START, Client, Content, Place, aria2, enter_network, fetch, free_port, libtorrent, opentracker, transmission
+from fetch.dht.node import Node
+from fetch.tests.webservers import WebServer
+from others import (
+    LOCAL, NETWORK, READY, START, Client, Content, Place, aria2, enter_network, fetch, free_port, libtorrent, libtorrent_peer, opentracker,
+    transmission,
+)  # fmt: skip
 
 LONGEST = 150.0  # seconds of one download
 PIECE_LENGTH = 1 << 18
@@ -272,6 +277,89 @@ def waits_least(outcomes: list[Outcome]) -> bool:
     return waits["fetch"] <= min(waits[who] for who in PLAYERS) + TOLERANCE
 
 
+def wait_announced(place: Place, first: str, seeders: int) -> None:
+    """Waits until so many peers are found by the DHT, which begins at this node."""
+    host, _ = place.address()
+    found: set[tuple[str, int]] = set()
+    came = threading.Event()
+
+    def hear(peers: list[tuple[str, int]]) -> None:
+        found.update(peers)
+        if len(found) >= seeders:
+            came.set()
+
+    node = Node(host, 0, [(first.partition(":")[0], int(first.partition(":")[2]))])
+    node.start()
+    node.search(place.infohash, 0, hear)
+    try:
+        if not came.wait(READY):
+            raise RuntimeError(f"of {seeders} seeders {len(found)} are found by the DHT")
+    finally:
+        node.close()
+
+
+def ended(place: Place, leechers: list[Client]) -> Outcome:
+    """Waits until each leecher has ended by itself, as it does when it has all. How much came twice only ours tells."""
+    is_well = place.wait_ended(leechers, LONGEST)
+    told = [figures_of(client) for client in leechers if client.name == "fetch"]
+    for client in place.clients:
+        client.process.kill()
+    twice = [int(word[6:]) << 14 for figures in told for word in figures.split() if word.startswith("twice=")]
+    return Outcome(
+        leechers[0].name, is_well, [client.seconds for client in leechers], max(client.megabytes() for client in leechers),
+        sum(twice) if len(twice) == len(leechers) else None, " | ".join(told),
+    )  # fmt: skip
+
+
+def by_magnet(place: Place, who: str) -> Outcome:
+    """A magnet link with nothing but the infohash, and a node of the DHT. Three libtorrent clients have the content, and no tracker is there."""
+    place.infohash = place.content.torrent(place.torrent, is_private=False)
+    at = place.address()
+    first = f"{at[0]}:{at[1]}"
+    for number in range(3):
+        libtorrent_peer(place, True, ("--node", first, "--up", "4000"), at=at if number == 0 else None)
+    wait_announced(place, first, 3)
+    link = f"magnet:?xt=urn:btih:{place.infohash.hex()}"
+    if who == "fetch":
+        leecher = fetch(place, False, words=("--dht", "--dht-node", first), torrent=link)
+    elif who == "aria2":
+        host, port = first.split(":")
+        words = ("--enable-dht=true", f"--dht-entry-point={host}:{port}", "--seed-time=0", f"--dht-file-path={place.folder / 'aria2.dat'}")
+        leecher = aria2(place, False, words=words, torrent=link)
+    else:
+        leecher = libtorrent_peer(place, False, ("--node", first), torrent=link)
+    return ended(place, [leecher])
+
+
+def exchanged(place: Place, who: str) -> Outcome:
+    """Five leechers of one kind. The tracker names none but the seeder, which gives 1 MB a second: the others are known by peer exchange alone."""
+    place.infohash = place.content.torrent(place.torrent, place.tracker.url, is_private=False)
+    seeder = libtorrent_peer(place, True, ("--up", "1000", "--exchange"))
+    place.tracker.only = (seeder.host, seeder.port)
+    place.wait_ready(seeder)
+    if who == "fetch":
+        leechers = [fetch(place, False) for _ in range(5)]
+    else:
+        leechers = [aria2(place, False, words=("--enable-peer-exchange=true",)) for _ in range(5)]
+    return finish(place, leechers)
+
+
+def by_web(place: Place, who: str) -> Outcome:
+    """A web server with ranges is the only seed, of some 20 MB a second for each connection, and there is no tracker."""
+    server = WebServer({"/content": place.content.path.read_bytes()}, host=f"{NETWORK}1", rate=20.0 * MEGABYTE)
+    place.infohash = place.content.torrent(place.torrent, web_seed=server.url, is_private=False)
+    try:
+        if who == "fetch":
+            leecher = fetch(place, False, words=())
+        elif who == "aria2":
+            leecher = aria2(place, False, words=("--seed-time=0",))
+        else:
+            leecher = libtorrent_peer(place, False)
+        return ended(place, [leecher])
+    finally:
+        server.close()
+
+
 FOLDER = {f"{number % 7}/file {number}": 1 + number * number * 37 for number in range(200)} | {"large": 20 * MEGABYTE}
 ONE = ("fetch",)
 TRIALS: dict[str, tuple[Callable[[Place, str], Outcome], tuple[str, ...], dict[str, int], int]] = {  # who downloads; files; piece length
@@ -289,6 +377,9 @@ TRIALS: dict[str, tuple[Callable[[Place, str], Outcome], tuple[str, ...], dict[s
     "by http": (by_opentracker("http"), ONE, {"": 24 * MEGABYTE}, PIECE_LENGTH),
     "swarm": (swarm, LEECHERS, {"": 30 * MEGABYTE}, PIECE_LENGTH),
     "mixed": (mixed, ONE, {"": 30 * MEGABYTE}, PIECE_LENGTH),
+    "magnet": (by_magnet, ("fetch", "aria2", "libtorrent"), {"": 48 * MEGABYTE}, PIECE_LENGTH),
+    "exchange": (exchanged, ("fetch", "aria2"), {"": 30 * MEGABYTE}, PIECE_LENGTH),
+    "web": (by_web, ("fetch", "aria2", "libtorrent"), {"": 100 * MEGABYTE}, PIECE_LENGTH),
     "player": (played, ("fetch", *PLAYERS) * 3, {"": 24 * MEGABYTE}, PIECE_LENGTH),
     "large": (one_seeder("aria2"), LEECHERS, {"": 1 << 32}, 1 << 20),
 }

@@ -21,7 +21,8 @@ ANSWERED, ANSWERED_TO_HOST = 60.0, 15  # queries in a second that are answered
 MOST_WAITING = 256  # queries without an answer yet
 NEAREST = 16  # nodes with which a lookup begins
 FEW_NODES = 8
-SOON, LATER = 2.0, 300.0  # seconds until a torrent is looked up again: as long as nobody is found they double, up to the later ones
+SOON, LATER = 2.0, 300.0  # seconds until a torrent is looked up again: as long as few are found they double, up to the later ones
+FEW_PEERS = 30
 FIRST_RETRY, LONGEST_RETRY = 3.0, 300.0  # seconds until we look again for the nodes near to us; they double
 MOST_FAR = 20  # buckets that are looked up at a time
 UNKNOWN = b""  # the number of a node of which the address alone is known
@@ -188,7 +189,7 @@ class Talk:
         self._pump(search.lookup, now)
         if search.lookup.is_done:
             self._announce(search, search.lookup, now)
-            search.next = now + (LATER if search.lookup.peers else search.wait)
+            search.next = now + (search.wait if len(search.lookup.peers) < FEW_PEERS else LATER)
             search.wait, search.lookup = min(2 * search.wait, LATER), None
 
     def _pump(self, lookup: Lookup, now: float) -> None:

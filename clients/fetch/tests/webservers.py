@@ -6,6 +6,9 @@ import contextlib
 import http.server
 import re
 import threading
+import time
+
+CHUNK = 1 << 18
 
 
 class Quiet(http.server.ThreadingHTTPServer):
@@ -20,8 +23,9 @@ class Quiet(http.server.ThreadingHTTPServer):
 class WebServer:
     """Gives these files by their paths. `lies` says how it misbehaves."""
 
-    def __init__(self, files: dict[str, bytes], lies: str = "", host: str = "127.0.0.1", with_query: bool = True) -> None:
+    def __init__(self, files: dict[str, bytes], lies: str = "", host: str = "127.0.0.1", with_query: bool = True, rate: float = 0.0) -> None:
         self.files, self.lies, self.with_query = files, lies, with_query
+        self.rate = rate  # bytes a second of each connection; 0 is no limit
         self.requests: list[tuple[str, str]] = []  # the path and the range of each
         server = self
 
@@ -71,15 +75,19 @@ class WebServer:
         headers = {"Content-Range": told} | ({"Content-Encoding": "gzip"} if self.lies == "packed" else {})
         self.send(handler, 206, part[: len(part) // 2] if self.lies == "short" else part, headers)
 
-    @staticmethod
-    def send(handler: http.server.BaseHTTPRequestHandler, status: int, body: bytes, headers: dict[str, str]) -> None:
+    def send(self, handler: http.server.BaseHTTPRequestHandler, status: int, body: bytes, headers: dict[str, str]) -> None:
         """A whole answer."""
         handler.send_response(status)
         handler.send_header("Content-Length", str(len(body)))
         for name, value in headers.items():
             handler.send_header(name, value)
         handler.end_headers()
-        handler.wfile.write(body)
+        view = memoryview(body)
+        while view:
+            handler.wfile.write(view[:CHUNK])
+            view = view[CHUNK:]
+            if self.rate:
+                time.sleep(CHUNK / self.rate)
 
     @staticmethod
     def flood(handler: http.server.BaseHTTPRequestHandler) -> None:
