@@ -79,7 +79,7 @@ def figures_of(client: Client) -> str:
     """What the downloader of this folder printed at its end."""
     assert client.process.stdout
     told = json.loads(client.process.stdout.read() or b"{}")
-    names = ("blocks", "twice", "requests", "endgame_requests", "late_bitfields", "failed", "lost", "uploaded", "calls", "library")
+    names = ("seconds", "blocks", "twice", "requests", "endgame_requests", "late_bitfields", "failed", "lost", "uploaded", "calls", "library")
     return " ".join(f"{name}={told[name]}" for name in names if name in told)
 
 
@@ -355,7 +355,9 @@ def by_web(place: Place, who: str) -> Outcome:
             leecher = aria2(place, False, words=("--seed-time=0",))
         else:
             leecher = libtorrent_peer(place, False)
-        return ended(place, [leecher])
+        outcome = ended(place, [leecher])
+        outcome.more += f" ranges={len(server.requests)}"
+        return outcome
     finally:
         server.close()
 

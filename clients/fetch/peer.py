@@ -16,6 +16,7 @@ from .rate import Rate
 from .wire import Inbound, Message, spell
 
 FIRST_DEPTH = 64
+FIRST_DEPTH_WEB = 256  # of web servers, whose ranges are to be long
 FIRST_DEPTH_READING = 8  # while somebody reads, since a slow peer would keep what the reader waits for
 MOST_DEPTH = 500
 MOST_LATE = 2000  # requests that are remembered after they were taken back, since their blocks may come
@@ -107,9 +108,9 @@ class Peer:
             return head[1:-1].decode("ascii")
         return head.split(b"-")[0].decode("ascii") if head[:1].isalpha() and head.replace(b"-", b"").isalnum() else ""
 
-    def begin_shallow(self) -> None:
-        """The peer joins while somebody reads."""
-        self.by_rate = DepthByRate(milliseconds(self.began), depth=FIRST_DEPTH_READING, deepest=MOST_DEPTH)
+    def begin_with(self, depth: int) -> None:
+        """The peer has another depth at first than most."""
+        self.by_rate = DepthByRate(milliseconds(self.began), depth=depth, deepest=MOST_DEPTH)
 
     def say(self, message: Message, *numbers: int) -> None:
         """Puts a message behind what is to be sent."""

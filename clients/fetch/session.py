@@ -14,7 +14,7 @@ from .content import Content, Verdict
 from .deadlines import Line
 from .extensions import Extensions
 from .layout import BLOCK
-from .peer import ALL_LEVELS, NO_WORKER, Peer, milliseconds
+from .peer import ALL_LEVELS, FIRST_DEPTH_READING, FIRST_DEPTH_WEB, NO_WORKER, Peer, milliseconds
 from .suspects import Suspects
 from .uploads import Uploads
 from .wire import Message, WireFault, block_of, numbers_of, port_of, spell, spell_bitfield, spell_port
@@ -86,8 +86,8 @@ class Session:
         self.peers[worker] = peer
         self.content.owners[worker] = peer.address
         self.picker.join(worker)
-        if self.suspects.reads:
-            peer.begin_shallow()
+        if self.suspects.reads or peer.is_web:
+            peer.begin_with(FIRST_DEPTH_READING if self.suspects.reads else FIRST_DEPTH_WEB)
             self.picker.depth(worker, peer.depth)
         if peer.is_fast and self.content.had_count == self.layout.pieces:
             peer.say(Message.HAVE_ALL)

@@ -66,9 +66,9 @@ class WebSeeds:
         server.next_try = now + delay(server.failures)
 
     def _set_order(self) -> None:
-        """While servers are alone all comes from the front on: all pieces are shown by all, and long ranges are quicker than short ones."""
+        """While nobody else is connected all comes from the front on: servers show all pieces, and long ranges are quicker than short ones."""
         peers, options = self.parts.session.peers.values(), self.parts.options
-        is_alone = bool(peers) and all(peer.is_web for peer in peers)
+        is_alone = all(peer.is_web for peer in peers)
         if is_alone != self._is_alone and options.serve is None:
             self._is_alone = is_alone
             self.parts.picker.set_in_order(options.in_order or is_alone)

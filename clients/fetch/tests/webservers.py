@@ -82,12 +82,13 @@ class WebServer:
         for name, value in headers.items():
             handler.send_header(name, value)
         handler.end_headers()
-        view = memoryview(body)
+        view, due = memoryview(body), time.monotonic()
         while view:
             handler.wfile.write(view[:CHUNK])
-            view = view[CHUNK:]
             if self.rate:
-                time.sleep(CHUNK / self.rate)
+                due += min(CHUNK, len(view)) / self.rate
+                time.sleep(max(0.0, due - time.monotonic()))
+            view = view[CHUNK:]
 
     @staticmethod
     def flood(handler: http.server.BaseHTTPRequestHandler) -> None:
