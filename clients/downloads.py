@@ -301,9 +301,9 @@ def wait_announced(place: Place, first: str, seeders: int) -> None:
 def ended(place: Place, leechers: list[Client]) -> Outcome:
     """Waits until each leecher has ended by itself, as it does when it has all. How much came twice only ours tells."""
     is_well = place.wait_ended(leechers, LONGEST)
-    told = [figures_of(client) for client in leechers if client.name == "fetch"]
     for client in place.clients:
         client.process.kill()
+    told = [figures_of(client) for client in leechers if client.name == "fetch"]
     twice = [int(word[6:]) << 14 for figures in told for word in figures.split() if word.startswith("twice=")]
     return Outcome(
         leechers[0].name, is_well, [client.seconds for client in leechers], max(client.megabytes() for client in leechers),
@@ -311,24 +311,34 @@ def ended(place: Place, leechers: list[Client]) -> Outcome:
     )  # fmt: skip
 
 
+def by_link(place: Place, who: str, first: str) -> Client:
+    """A leecher by a magnet link with nothing but the infohash, whose DHT begins at this node. It ends when it has all."""
+    link = f"magnet:?xt=urn:btih:{place.infohash.hex()}"
+    if who == "fetch":
+        return fetch(place, False, words=("--dht", "--dht-node", first), torrent=link)
+    if who == "aria2":
+        words = ("--enable-dht=true", f"--dht-entry-point={first}", "--seed-time=0", f"--dht-file-path={place.folder / 'aria2.dat'}")
+        return aria2(place, False, words=words, torrent=link)
+    return libtorrent_peer(place, False, ("--node", first), torrent=link)
+
+
 def by_magnet(place: Place, who: str) -> Outcome:
-    """A magnet link with nothing but the infohash, and a node of the DHT. Three libtorrent clients have the content, and no tracker is there."""
+    """Three libtorrent clients of 4 MB a second have the content. No tracker is there, and the first one is the first node of the DHT."""
     place.infohash = place.content.torrent(place.torrent, is_private=False)
     at = place.address()
     first = f"{at[0]}:{at[1]}"
     for number in range(3):
         libtorrent_peer(place, True, ("--node", first, "--up", "4000"), at=at if number == 0 else None)
     wait_announced(place, first, 3)
-    link = f"magnet:?xt=urn:btih:{place.infohash.hex()}"
-    if who == "fetch":
-        leecher = fetch(place, False, words=("--dht", "--dht-node", first), torrent=link)
-    elif who == "aria2":
-        host, port = first.split(":")
-        words = ("--enable-dht=true", f"--dht-entry-point={host}:{port}", "--seed-time=0", f"--dht-file-path={place.folder / 'aria2.dat'}")
-        leecher = aria2(place, False, words=words, torrent=link)
-    else:
-        leecher = libtorrent_peer(place, False, ("--node", first), torrent=link)
-    return ended(place, [leecher])
+    return ended(place, [by_link(place, who, first)])
+
+
+def magnet_given(place: Place, who: str) -> Outcome:
+    """The downloader of this folder gives info and content, of 12 MB a second, and is the first node of the DHT."""
+    place.infohash = place.content.torrent(place.torrent, is_private=False)
+    nobody = f"{NETWORK}1:9"  # else the public nodes would be asked for, which this network hasn't
+    seeder = place.wait_ready(fetch(place, True, 12000, words=("--dht", "--dht-node", nobody, "--seed-minutes", "10")))
+    return ended(place, [by_link(place, who, seeder.address)])
 
 
 def exchanged(place: Place, who: str) -> Outcome:
@@ -380,6 +390,7 @@ TRIALS: dict[str, tuple[Callable[[Place, str], Outcome], tuple[str, ...], dict[s
     "swarm": (swarm, LEECHERS, {"": 30 * MEGABYTE}, PIECE_LENGTH),
     "mixed": (mixed, ONE, {"": 30 * MEGABYTE}, PIECE_LENGTH),
     "magnet": (by_magnet, ("fetch", "aria2", "libtorrent"), {"": 48 * MEGABYTE}, PIECE_LENGTH),
+    "magnet given": (magnet_given, ("fetch", "aria2", "libtorrent"), {"": 48 * MEGABYTE}, PIECE_LENGTH),
     "exchange": (exchanged, ("fetch", "aria2"), {"": 30 * MEGABYTE}, PIECE_LENGTH),
     "web": (by_web, ("fetch", "aria2", "libtorrent"), {"": 100 * MEGABYTE}, PIECE_LENGTH),
     "player": (played, ("fetch", *PLAYERS) * 3, {"": 24 * MEGABYTE}, PIECE_LENGTH),

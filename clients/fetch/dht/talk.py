@@ -100,7 +100,7 @@ class Talk:
         """New peers go to who looks for them."""
         for search in self.searches:
             if search.lookup is lookup and (new := lookup.peers - search.told):
-                search.told = set(lookup.peers)
+                search.told |= new
                 search.on_peers(sorted(new))
 
     def _fail(self, waiting: Waiting, now: float) -> None:
@@ -179,7 +179,10 @@ class Talk:
             self._ask(Contact(UNKNOWN, address), Method.FIND_NODE, now, lookup, self.own)
 
     def _look(self, search: Search, now: float) -> None:
-        """Begins, goes on with, or ends the lookup of a torrent."""
+        """Begins, goes on with, or ends the lookup of a torrent. Peers that announced themselves here are found at once."""
+        if new := set(self.store.peers_of(search.infohash, now)) - search.told:
+            search.told |= new
+            search.on_peers(sorted(new))
         if search.lookup is None:
             if now < search.next or not len(self.table):
                 return

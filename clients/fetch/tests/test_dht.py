@@ -203,6 +203,15 @@ class Nets(unittest.TestCase):
         net.run(30.0)
         self.assertEqual(set(found), {("10.0.0.8", 5555)})
 
+    def test_two(self) -> None:
+        """Of two nodes that know each other alone, one finds the peer that the other one announces to it."""
+        net = Net(2)
+        talks, found = list(net.talks.values()), list[Address]()
+        talks[0].searches.append(Search(INFOHASH, 5555, lambda peers: None))
+        talks[1].searches.append(Search(INFOHASH, 0, found.extend))
+        net.run(10.0)
+        self.assertEqual(set(found), {("10.0.0.1", 5555)})
+
     def test_wrong_token(self) -> None:
         """An announce with no token of ours is refused, by the number of BEP 5, and isn't kept."""
         sent: list[bytes] = []
