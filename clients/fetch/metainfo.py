@@ -26,9 +26,9 @@ def read(metainfo: bytes) -> dict[bytes, Value]:
     try:
         value = bdecode(metainfo)
     except BencodeFault as fault:
-        raise MetainfoFault(f"the metainfo file is no bencoded value, as BEP 3 has it: {fault}") from fault
+        raise MetainfoFault(f"this is no metainfo file (BEP 3): {fault}") from fault
     if not isinstance(value, dict):
-        raise MetainfoFault("the metainfo file is not dictionary")
+        raise MetainfoFault("this is no metainfo file (BEP 3): it is no dictionary")
     return value
 
 

@@ -19,7 +19,7 @@ from .identity import NO_PORT, new_peer_id
 from .layout import File, Layout
 from .limits import Bounds, bounds_of
 from .lock import Lock
-from .metainfo import MetainfoFault, files_of, info_of, is_folder, is_private, trackers_of
+from .metainfo import MetainfoFault, files_of, info_of, is_folder, is_private, read, trackers_of
 from .meter import Metered
 from .options import Options
 from .peer import FIRST_DEPTH, MOST_DEPTH
@@ -42,6 +42,8 @@ def open_picker(metainfo: bytes, options: Options) -> Picker:
             metainfo, keeps=Keeps.NOTHING, workers=2 * options.most_peers + 1, depth=FIRST_DEPTH, deepest=MOST_DEPTH, askers=options.askers
         )
     except PiecepickError as error:
+        if error.status is Status.BENCODE:
+            read(metainfo)  # what isn't even bencoded carelessly has a better word
         strict = "it isn't bencoded as strictly as BEP 3 has it"
         cause = strict if error.status is Status.BENCODE else error.status.name.lower().replace("_", " ")
         raise MetainfoFault(f"the library can't use the metainfo file: {cause}") from error
