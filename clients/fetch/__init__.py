@@ -30,7 +30,8 @@ The modules:
     rate, limits                how fast it goes, and how fast it may
     swarm, lingering            the loop of sockets, and its end
     addresses, partings         where peers may be found, and why they went
-    finding, reach, dht         what finds peers for a download, for all of them, and the node of the DHT
+    finding, reach              what finds peers for a download, and for all of them
+    dht, local                  a node of the DHT, and the local network
     announcing, tracker*        trackers, by HTTP and by UDP
     ranges, webseed, webseeds   web servers that have the content
     progress, watch, serving    the progress line, the drawing in the terminal, and the files for a player
@@ -39,7 +40,7 @@ The modules:
     trace, recorder             what happened in a whole download
     picture, ticks              its drawing
 
-Sockets are used by `swarm`, `seeking`, `serving`, `dht.node`, `ranges`, `webseed`, `web` and the trackers, and `parts` opens the one that
+Sockets are used by `swarm`, `seeking`, `serving`, `dht.node`, `local`, `ranges`, `webseed`, `web` and the trackers, and `parts` opens the one that
 listens. Only `content`, `session`, `suspects`, `serving`, `levels`, `webseeds` and `transfer` tell the picker something.
 """
 

@@ -124,6 +124,7 @@ def _add_swarm(parser: argparse.ArgumentParser) -> None:
     swarm.add_argument("--dht", action=argparse.BooleanOptionalAction, dest="uses_dht", default=True, help="find peers by the DHT (default)")
     node = "begin the way into the DHT at this node, and not at the public ones; may come several times"
     swarm.add_argument("--dht-node", type=_told(addresses.parse), action="append", default=[], dest="dht_nodes", metavar="HOST:PORT", help=node)
+    swarm.add_argument("--local", action="store_true", dest="uses_local", help="find peers of the local network by packets to all of it")
     swarm.add_argument("--no-exchange", action="store_false", dest="exchanges_peers", help="tell peers of no others, and hear of none by them")
     swarm.add_argument("--no-web", action="store_false", dest="uses_web_seeds", help="take nothing from web servers")
     swarm.add_argument("--askers", type=_peers, default=2, metavar="N", help="of so many peers a block is asked at most in endgame, 2 by default")

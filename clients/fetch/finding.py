@@ -1,4 +1,4 @@
-"""Finds peers for one download: by its trackers, the DHT, and web servers that have the content."""
+"""Finds peers for one download: by its trackers, the DHT, the local network, and web servers that have the content."""
 
 from __future__ import annotations
 
@@ -8,6 +8,7 @@ from .addresses import Origin, is_loopback
 from .blame import Address
 from .dht.node import Node
 from .dht.talk import Search
+from .local import Announced, Local
 from .parts import Parts
 from .reach import Reach
 from .webseeds import WebSeeds
@@ -22,26 +23,30 @@ class Finding:
         self.node: Node | None = None
         self._reach = reach
         self._search: Search | None = None
-        self._found: queue.SimpleQueue[list[Address]] = queue.SimpleQueue()
+        self._local: Local | None = None
+        self._announced: Announced | None = None
+        self._found: queue.SimpleQueue[tuple[list[Address], Origin]] = queue.SimpleQueue()
 
     @property
     def knows_nobody(self) -> bool:
         """Whether there is neither a peer nor anything that could find one."""
-        found_by = (self.parts.swarm.addresses.known, self.parts.announcer.tiers, self.node, self.web_seeds.servers)
+        found_by = (self.parts.swarm.addresses.known, self.parts.announcer.tiers, self.node, self._local, self.web_seeds.servers)
         return not any(found_by)
 
     def start(self) -> None:
         """Looks from now on."""
         parts = self.parts
         if self._reach and not parts.is_private:
-            self.node = self._reach.node()
+            self.node, self._local = self._reach.node(), self._reach.local()
+        if self._local:
+            self._announced = self._local.add(parts.content.infohash, parts.port, lambda peers: self._hear_of(peers, Origin.LOCAL))
         if self.node:
-            self._search = self.node.search(parts.content.infohash, parts.port, self._hear_of)
+            self._search = self.node.search(parts.content.infohash, parts.port, lambda peers: self._hear_of(peers, Origin.DHT))
             parts.session.dht_port, parts.session.on_node = self.node.port, self.node.greet
 
-    def _hear_of(self, peers: list[Address]) -> None:
-        """The DHT has found peers; its own thread says so."""
-        self._found.put(peers)
+    def _hear_of(self, peers: list[Address], origin: Origin) -> None:
+        """Others have found peers; their own threads say so."""
+        self._found.put((peers, origin))
         self.parts.swarm.wake()
 
     def tick(self, now: float) -> None:
@@ -50,11 +55,12 @@ class Finding:
         for address in self.parts.announcer.tick(now, len(self.parts.session.peers)):
             swarm.addresses.add(address)
         while not self._found.empty():
-            swarm.addresses.hear(self._found.get(), Origin.DHT, (host, 0) if is_loopback(host) else None)
-
+            swarm.addresses.hear(*self._found.get(), (host, 0) if is_loopback(host) else None)
         self.web_seeds.tick(now)
 
     def close(self) -> None:
         """Looks for nobody any more."""
         if self.node and self._search:
             self.node.end(self._search)
+        if self._local and self._announced:
+            self._local.remove(self._announced)

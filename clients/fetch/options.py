@@ -35,6 +35,7 @@ class Options:
     asks_trackers: bool = True
     uses_dht: bool = False
     dht_nodes: tuple[Address, ...] = ()  # where the way into the DHT begins
+    uses_local: bool = False
     exchanges_peers: bool = True
     uses_web_seeds: bool = True
     seed_ratio: float | None = None

@@ -50,6 +50,8 @@ class Following:
         trackers = [[url] for url in link.trackers] if options.asks_trackers else []
         seeker.announcer = Announcer(trackers, self._announce, seeker.wake, options.bind)
         self._search = self.node.search(link.infohash, 0, seeker.hear_of) if self.node else None
+        self._local = reach.local()
+        self._announced = self._local.add(link.infohash, 0, seeker.hear_of) if self._local else None
         self._began = time.monotonic()
         for address in options.peers:
             seeker.addresses.add(looked_up(address), Origin.USER)
@@ -63,7 +65,7 @@ class Following:
     def turn(self) -> Source | None:
         """One turn of the loop; the torrent once it is there. Raises NotFound where nobody can give it, or the user ends it."""
         seeker, give_up = self.seeker, self.options.give_up
-        if not (seeker.addresses.known or self.node or (seeker.announcer and seeker.announcer.tiers)):
+        if not (seeker.addresses.known or self.node or self._local or (seeker.announcer and seeker.announcer.tiers)):
             raise NotFound("no peer is known: HOST:PORT behind OUT names one")
         seeker.turn()
         if seeker.info is not None:
@@ -92,6 +94,8 @@ class Following:
         self.seeker.close()
         if self.node and self._search:
             self.node.end(self._search)
+        if self._local and self._announced:
+            self._local.remove(self._announced)
 
 
 def is_magnet(torrent: str) -> bool:
