@@ -182,4 +182,4 @@ class Seeker:
         self._woken.close()
         self._waker.close()
         if self.announcer:
-            self.announcer.stop()
+            self.announcer.stop(waits=self.info is None)

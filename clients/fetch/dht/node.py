@@ -14,6 +14,7 @@ from .talk import Search, Talk
 
 TICK = 0.1  # seconds
 LARGEST = 4096  # bytes of a packet
+LAST_SECONDS = 1.0  # that the end waits for the thread, which may look up a name
 MOST_ORDERS = 200  # that wait for the thread
 
 
@@ -106,6 +107,6 @@ class Node:
         """Ends."""
         self._is_closing = True
         if self._thread.is_alive():
-            self._thread.join()
+            self._thread.join(LAST_SECONDS)
         else:
             self._socket.close()

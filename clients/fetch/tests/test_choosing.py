@@ -6,6 +6,7 @@ import contextlib
 import io
 import os
 import pty
+import signal
 import subprocess
 import sys
 import time
@@ -92,6 +93,22 @@ class Several(Contact):
         self.assertEqual(len(printed.splitlines()), 2)
         self.assertIn("wrong.torrent: ", self.errors)
         self.assertEqual(self.run_in("--list", "one.torrent", "two.torrent").splitlines()[0], "one.torrent")
+
+    def test_interrupted(self) -> None:
+        """One interrupt ends all of them in order, and each says what is there."""
+        server = WebServer({f"/folder/{path}": data for path, data in parts().items()} | {"/content": CONTENT}, rate=100000.0)
+        self.addCleanup(server.close)
+        for name, torrent in (("one.torrent", folder_torrent()), ("two.torrent", single_torrent())):
+            (self.folder / name).write_bytes(with_seeds(torrent, [server.url]))
+        process = subprocess.Popen([*PROGRAM, "one.torrent", "two.torrent"], cwd=self.folder, stderr=subprocess.PIPE, text=True)
+        deadline = time.monotonic() + 60
+        while not {"folder", "content.part"} <= {path.name for path in self.folder.iterdir()} and time.monotonic() < deadline:
+            time.sleep(0.02)
+        process.send_signal(signal.SIGINT)
+        errors = process.communicate(timeout=60)[1]
+        self.assertEqual(process.returncode, 1, errors)
+        self.assertEqual(errors.count("the same command goes on with it"), 2, errors)
+        self.assertNotIn("Traceback", errors)
 
 
 class Keys(unittest.TestCase):
