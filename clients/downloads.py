@@ -392,7 +392,7 @@ TRIALS: dict[str, tuple[Callable[[Place, str], Outcome], tuple[str, ...], dict[s
     "magnet": (by_magnet, ("fetch", "aria2", "libtorrent"), {"": 48 * MEGABYTE}, PIECE_LENGTH),
     "magnet given": (magnet_given, ("fetch", "aria2", "libtorrent"), {"": 48 * MEGABYTE}, PIECE_LENGTH),
     "exchange": (exchanged, ("fetch", "aria2"), {"": 30 * MEGABYTE}, PIECE_LENGTH),
-    "web": (by_web, ("fetch", "aria2", "libtorrent"), {"": 100 * MEGABYTE}, PIECE_LENGTH),
+    "web": (by_web, ("fetch", "aria2", "libtorrent"), {"": 200 * MEGABYTE}, PIECE_LENGTH),
     "player": (played, ("fetch", *PLAYERS) * 3, {"": 24 * MEGABYTE}, PIECE_LENGTH),
     "large": (one_seeder("aria2"), LEECHERS, {"": 1 << 32}, 1 << 20),
 }
