@@ -44,7 +44,7 @@ class Download:
     come for `give_up` seconds. It raises MetainfoFault, StorageFault, NotFound, ValueError or OSError, as the program has a sentence for each.
     What it has done stays on the disk, and another Download with the same torrent and the same `out` goes on.
 
-    All calls are for one thread, but `stop`. No signal is handled, and nothing is printed.
+    All calls are for one thread, but `stop`. No signal is handled, and nothing is printed but warnings.
     """
 
     def __init__(self, torrent: str | bytes, out: str = "", **choices: Any) -> None:

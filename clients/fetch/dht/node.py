@@ -14,7 +14,7 @@ from .talk import Search, Talk
 
 TICK = 0.1  # seconds
 LARGEST = 4096  # bytes of a packet
-LAST_SECONDS = 1.0  # that the end waits for the thread, which may look up a name
+LAST_SECONDS = 1.0  # that the end waits for the thread
 MOST_ORDERS = 200  # that wait for the thread
 
 
@@ -34,7 +34,7 @@ def open_socket(host: str, port: int) -> socket.socket:
 
 
 class Node:
-    """A node that runs. Its methods may be called by any thread. `first_nodes` may have names, which are looked up by the node's thread."""
+    """A node that runs. Its methods may be called by any thread. `first_nodes` may have names."""
 
     def __init__(self, host: str, port: int, first_nodes: list[Address]) -> None:
         self._socket = open_socket(host, port)
@@ -48,6 +48,18 @@ class Node:
     def start(self) -> None:
         """Asks and answers from now on."""
         self._thread.start()
+        if self.first_nodes:
+            threading.Thread(target=self._look_up, name="dht names", daemon=True).start()
+
+    def _look_up(self) -> None:
+        """Finds the addresses of the first nodes, which may take long for names."""
+        for host, port in self.first_nodes:
+            with contextlib.suppress(OSError):
+                where = socket.getaddrinfo(host, port, socket.AF_INET, socket.SOCK_DGRAM)[0][4]
+                self._begin_at((str(where[0]), int(where[1])))
+
+    def _begin_at(self, address: Address) -> None:
+        self._order(lambda: self.talk.first_nodes.append(address))
 
     def _order(self, order: Callable[[], None]) -> None:
         if self._orders.qsize() < MOST_ORDERS:
@@ -82,10 +94,6 @@ class Node:
             self._socket.sendto(packet, address)
 
     def _run(self) -> None:
-        for host, port in self.first_nodes:
-            with contextlib.suppress(OSError):
-                where = socket.getaddrinfo(host, port, socket.AF_INET, socket.SOCK_DGRAM)[0][4]
-                self.talk.first_nodes.append((str(where[0]), int(where[1])))
         ticked = 0.0
         while not self._is_closing:
             self._receive()

@@ -168,7 +168,7 @@ class Talk:
 
     def _enter(self, now: float) -> None:
         """Looks for the nodes that are near to us, now and then: others come. The first nodes are asked as long as few are known."""
-        if now < self._next_first:
+        if now < self._next_first or not (self.first_nodes or len(self.table)):
             return
         self._next_first, self._retry = now + self._retry, min(2 * self._retry, LONGEST_RETRY)
         lookup = Lookup(self.own, self.own, wants_peers=False)
