@@ -107,6 +107,7 @@ def _add_choice(parser: argparse.ArgumentParser) -> None:
     what.add_argument("--level", type=_level, action="append", default=[], metavar="N=L", help=level)
     what.add_argument("--in-order", action="store_true", help="from the front to the end, and not the rarest first")
     what.add_argument("--ends-first", action="store_true", help="the first and the last piece of each file before its others, for players")
+    what.add_argument("--at-once", type=_between(1, 50), default=5, metavar="N", help="of several torrents so many at a time, 5 by default")
     what.add_argument("--replace", action="store_true", dest="replaces", help="overwrite files that have another content")
 
 
@@ -119,7 +120,7 @@ def _add_swarm(parser: argparse.ArgumentParser) -> None:
     swarm.add_argument("--peers", type=_peers, dest="most_peers", default=50, metavar="N", help="connections at most, 50 by default")
     swarm.add_argument("--slots", type=_count, default=4, metavar="N", help="peers that are uploaded to at a time, 4 by default; 0 uploads nothing")
     swarm.add_argument("--up", type=_count, dest="up_limit", metavar="KB", help="upload so many kilobytes a second at most")
-    swarm.add_argument("--down", type=_slowest, dest="down_limit", metavar="KB", help="download so many kilobytes a second at most")
+    swarm.add_argument("--down", type=_slowest, dest="down_limit", metavar="KB", help="download so many kilobytes a second at most, 16 or more")
     swarm.add_argument("--no-tracker", action="store_false", dest="asks_trackers", help="ask no tracker")
     swarm.add_argument("--dht", action=argparse.BooleanOptionalAction, dest="uses_dht", default=True, help="find peers by the DHT (default)")
     node = "begin the way into the DHT at this node, and not at the public ones; may come several times"
@@ -135,7 +136,6 @@ def _add_ends(parser: argparse.ArgumentParser) -> None:
     ends = parser.add_argument_group("when it ends")
     ends.add_argument("--seed", type=_amount, dest="seed_ratio", metavar="RATIO", help="then upload until so many times the content is given")
     ends.add_argument("--seed-minutes", type=_amount, metavar="N", help="then upload for so many minutes")
-    ends.add_argument("--at-once", type=_between(1, 50), default=5, metavar="N", help="of several torrents so many at a time, 5 by default")
     ends.add_argument("--give-up", type=_amount, metavar="SECONDS", help="end when nothing has come for so long")
 
 

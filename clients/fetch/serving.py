@@ -109,7 +109,7 @@ class Urgent:
         comes_or_goes = bool(ahead) != bool(before)  # the first reader, or the last one
         if comes_or_goes:
             self._set_order(bool(ahead))
-            self.session.suspects.set_reading(bool(ahead))
+            self.session.set_reading(bool(ahead))
         if ahead is not before:
             self._set_levels(ahead)
         if comes_or_goes or (ahead and self.session.now - self._looked >= LOOK):

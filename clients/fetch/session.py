@@ -287,6 +287,13 @@ class Session:
         self.picker.alone(peer.worker, is_alone)
         return True
 
+    def set_reading(self, reads: bool) -> None:
+        """While somebody reads nobody works alone, be it a suspect or a web server."""
+        self.suspects.set_reading(reads)
+        for peer in self.peers.values():
+            if peer.is_web:
+                self.set_alone(peer, not reads)
+
     def _send_request(self, peer: Peer, block: tuple[int, int], answer: Answer) -> None:
         others = self.asks.get(block, 0)
         is_endgame = others > 0 and self.picker.rule(answer.piece, answer.begin // BLOCK) is PickRule.ENDGAME

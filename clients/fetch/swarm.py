@@ -197,7 +197,7 @@ class Swarm:
         )  # fmt: skip
         self.connections += 1
         self.session.join(peer, worker)
-        if peer.is_web:
+        if peer.is_web and not self.session.suspects.reads:
             self.session.set_alone(peer, True)
 
     def _free_worker(self) -> int | None:

@@ -12,7 +12,8 @@ from fetch.layout import File, Layout
 from fetch.metainfo import web_seeds_of
 from fetch.ranges import RangeFault, Ranges, address_of
 
-from .support import CONTENT, FILES, PIECE, Downloading, folder_torrent, single_torrent
+from .spoken import Speaking, message
+from .support import CONTENT, FILES, HAVE_ALL, PIECE, UNCHOKE, Downloading, folder_torrent, single_torrent
 from .test_files import parts
 from .webservers import WebServer
 
@@ -189,6 +190,31 @@ class Seeds(Downloading):
         self.torrent_path = cast(Any, f"{server.url}nothing")
         self.fetch(status=3)
         self.assertIn("status 404", self.errors)
+
+
+class Alone(Speaking):
+    """Whether a server works alone."""
+
+    torrent = folder_torrent()
+    had = 0
+
+    def test_reader(self) -> None:
+        """It gets pieces of its own, but not while somebody reads."""
+        peer = self.peer(True)
+        peer.is_web = True
+        self.session.set_alone(peer, True)
+        self.hear(peer, message(HAVE_ALL) + message(UNCHOKE))
+        self.assertEqual({piece for piece, _ in peer.asked} & self.asked_of(2), set())
+        self.session.set_reading(True)
+        self.assertFalse(peer.is_alone)
+        self.session.set_reading(False)
+        self.assertTrue(peer.is_alone)
+
+    def asked_of(self, port: int) -> set[int]:
+        """The pieces that another peer is asked for."""
+        other = self.peer(True, port)
+        self.hear(other, message(HAVE_ALL) + message(UNCHOKE))
+        return {piece for piece, _ in other.asked}
 
 
 class Single(Downloading):
