@@ -18,8 +18,9 @@ STRIP = 14  # width of the strip of how many peers show a piece
 COLUMNS, MOST_ROWS = 400, 240
 LEGEND_LINE, LEGEND_TOP = 18, 62
 MEANINGS = (
-    "A mark is a block, when it came, in the colour of the peer that sent it. A tinted row is complete, in the colour of who brought most of it.",
-    "The strip at the left says how many peers showed a piece when it was first requested. A red dot is a block asked of a second peer in endgame.",
+    "A mark is a block, when it came, in the colour of the peer that sent it. A complete row is tinted, in the colour of who brought most of it.",
+    "Marks above each other came together: a peer with a limited rate sends in bursts.",
+    "The strip at the left says how many peers showed a piece when it was first requested. A red dot is a block asked of a second peer.",
 )
 
 
