@@ -10,7 +10,7 @@ import os
 from .storage import StorageFault, told
 
 SUFFIX = ".piecepick.lock"
-READ_ONLY = (errno.EACCES, errno.EPERM, errno.EROFS)
+NO_LOCK = (errno.EACCES, errno.EPERM, errno.EROFS, errno.ENOLCK, errno.EOPNOTSUPP, errno.ENOSYS)
 
 
 class Lock:
@@ -29,8 +29,8 @@ class Lock:
         except BlockingIOError as error:
             raise StorageFault(f"{self.root} is downloaded by another run of this program: wait for its end, or name another OUT") from error
         except OSError as error:
-            # What may only be read can be given to others all the same.
-            if error.errno not in READ_ONLY:
+            # What may only be read can be given to others all the same, and some disks know no locks.
+            if error.errno not in NO_LOCK:
                 raise told(self.path, error) from error
 
     def _try(self) -> None:

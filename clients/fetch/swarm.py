@@ -60,7 +60,7 @@ class Swarm:
         self, session: Session, addresses: Addresses, limits: Limits, listener: socket.socket | None, down: Limit | None = None
     ) -> None:
         self.down = down or Limit(None)
-        self._held = -HELD_SECONDS  # when something that came wasn't read since the limit was reached
+        self._held = -HELD_SECONDS  # when nothing was read since the limit was reached
         self.session, self.addresses, self.limits, self.listener = session, addresses, limits, listener
         self.content = session.content
         self.choker = Choker(limits.slots)
@@ -212,7 +212,6 @@ class Swarm:
     def _receive(self, peer: Peer) -> None:
         """Reads what came. A peer that breaks the protocol is let go."""
         if not self.down.allows(self.session.now):
-            self._held = self.session.now
             return
         try:
             data = peer.connection.recv(self.down.room(READ))
@@ -254,10 +253,10 @@ class Swarm:
         del peer.unsent[:sent]
         peer.said = self.session.now
 
-    def _watch(self, peer: Peer) -> None:
+    def _watch(self, peer: Peer, may_read: bool) -> None:
         """Tells the selector what is awaited of a peer."""
         events = selectors.EVENT_WRITE if peer.unsent or not peer.is_connected else 0
-        if len(peer.unsent) < MOST_BACKLOG and self.down.allows(self.session.now):
+        if len(peer.unsent) < MOST_BACKLOG and may_read:
             events |= selectors.EVENT_READ
         if events != peer.events:
             peer.events = events
@@ -282,10 +281,13 @@ class Swarm:
         self.session.now = time.monotonic()
         self._settle()
         self.session.ask_idle()
+        may_read = self.down.allows(self.session.now)
+        if not may_read:
+            self._held = self.session.now
         for peer in self.peers:
             if peer.wants:
                 self.session.uploads.serve(peer, self.session.now)
-            self._watch(peer)
+            self._watch(peer, may_read)
         if self.session.now - self._ticked >= TICK:
             self._tick()
 

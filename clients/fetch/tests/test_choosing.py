@@ -75,6 +75,16 @@ class Limited(Downloading):
         self.assertGreater(float(figures["seconds"]), 1.5)
         self.assertEqual((figures["timeouts"], figures["lost"]), ("0", "0"))
 
+    def test_slow(self) -> None:
+        """Of six peers each brings a block in two seconds, which is no fault of theirs: for 18 seconds none is late, and the rate is kept."""
+        process = self.start("--down", "50", "--give-up", "60", seeders=tuple(self.seeder() for _ in range(6)))
+        with contextlib.suppress(subprocess.TimeoutExpired):
+            process.communicate(timeout=18)
+        process.send_signal(signal.SIGINT)
+        figures = dict(line.split() for line in process.communicate(timeout=30)[0].splitlines())
+        self.assertEqual((figures["timeouts"], figures["lost"]), ("0", "0"))
+        self.assertLess(int(figures["downloaded"]), (float(figures["seconds"]) + 2) * 50000 + 6 * 16384)
+
 
 class Several(Contact):
     """More than one torrent in one run."""
