@@ -22,7 +22,9 @@ from .wire import WireFault
 MOST_CONNECTIONS = 20
 MOST_BYTES = 2 * LARGEST  # of info dictionaries that come at a time
 CONNECT_SECONDS = 10.0  # until a peer has said the first thing
-PATIENCE = 30.0  # seconds for the dictionary, from the last byte on
+PATIENCE = 30.0  # seconds from the last byte on
+LONGEST = 120.0  # seconds for all of it
+SMALL = 1 << 18  # bytes of a dictionary that is begun whatever others take
 MOST_UNSENT = 1 << 16  # bytes: who reads nothing is let go
 READ = 1 << 16
 TICK = 0.2
@@ -35,6 +37,7 @@ class Link:
     connection: socket.socket
     address: Address
     asking: Asking
+    began: float
     heard: float
     is_connected: bool = False
 
@@ -72,8 +75,8 @@ class Seeker:
         self.wake()
 
     def _may_begin(self, size: int) -> bool:
-        """Whether a dictionary of this size has room beside the others that come."""
-        return size + sum(link.asking.size for link in self.links) <= MOST_BYTES
+        """Whether a dictionary of this size has room beside the others that come. A small one has, so that no liar holds it up."""
+        return size <= SMALL or size + sum(link.asking.size for link in self.links) <= MOST_BYTES
 
     def _connect(self, address: Address, now: float) -> None:
         connection = socket.socket(socket.AF_INET6 if ":" in address[0] else socket.AF_INET, socket.SOCK_STREAM)
@@ -92,7 +95,7 @@ class Seeker:
         def on_peers(peers: list[Address]) -> None:
             self.addresses.hear(peers, Origin.EXCHANGE, address)
 
-        link = Link(connection, address, Asking(self.infohash, self.peer_id, self._may_begin, on_peers), now)
+        link = Link(connection, address, Asking(self.infohash, self.peer_id, self._may_begin, on_peers), now, now)
         self.links.add(link)
         self._selector.register(connection, selectors.EVENT_READ | selectors.EVENT_WRITE, link)
 
@@ -155,7 +158,7 @@ class Seeker:
                 self.addresses.add(address)
         for link in list(self.links):
             patience = PATIENCE if link.asking.is_greeted else CONNECT_SECONDS
-            if now - link.heard > patience:
+            if now - link.heard > patience or now - link.began > LONGEST:
                 self._drop(link, "doesn't give the info dictionary" if link.asking.is_greeted else "doesn't answer", now)
             elif link.asking.is_greeted:
                 self._begin(link, now)

@@ -19,6 +19,7 @@ from fetch.dht.node import Node
 from fetch.metadata import Assembly, Word, WrongInfo
 from fetch.metainfo import MetainfoFault, info_of, infohash_of, is_private, metainfo_of, trackers_of, web_seeds_of
 from fetch.peer import Peer
+from fetch.seeking import Link, Seeker
 from fetch.spans import end_of
 from fetch.wire import Inbound, WireFault
 
@@ -129,6 +130,23 @@ class Assembled(unittest.TestCase):
         self.assertEqual((asking.unsent, asking.size), (b"", 0))
         asking.begin()
         self.assertEqual((asking.unsent, asking.size), (metadata.spell(3, Word.REQUEST, 0), 5))
+
+
+class Room(unittest.TestCase):
+    """How much may come at a time."""
+
+    def test_bounds(self) -> None:
+        """Two that say 8 MiB leave no room for a third such one, but for one of 256 KiB, as it has up to 13,000 pieces."""
+        seeker = Seeker(INFOHASH, b"-PP0000-abcdefghijkl")
+        self.addCleanup(seeker.close)
+        for number in range(2):
+            asking = Asking(INFOHASH, seeker.peer_id, seeker._may_begin, lambda peers: None)
+            asking.assembly = Assembly(INFOHASH, 1 << 23)
+            connection = socket.socket()
+            seeker._selector.register(connection, 1)
+            seeker.links.add(Link(connection, ("10.0.0.1", 1 + number), asking, 0.0, 0.0))
+        self.assertFalse(seeker._may_begin(1 << 23))
+        self.assertTrue(seeker._may_begin(1 << 18))
 
 
 class Given(Speaking):
