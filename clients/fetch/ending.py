@@ -65,5 +65,6 @@ def _beside(ending: Ending) -> list[str]:
         return []
     names = ", ".join(printable(path) for path in ending.parts[:MOST_NAMES])
     more = f" and {len(ending.parts) - MOST_NAMES} more" if len(ending.parts) > MOST_NAMES else ""
-    count = "1 file that isn't wanted shares" if len(ending.parts) == 1 else f"{len(ending.parts)} files that aren't wanted share"
-    return [f"{count} a piece with a wanted one, so a part is there: {names}{more}"]
+    if len(ending.parts) == 1:
+        return [f"1 file that isn't wanted has a part here, as files do that share a piece with a wanted one: {names}"]
+    return [f"{len(ending.parts)} files that aren't wanted have parts here, as files do that share a piece with a wanted one: {names}{more}"]
