@@ -81,10 +81,12 @@ class Seeder:
     infohash: bytes
     manners: Manners = field(default_factory=Manners)
     content: bytes = CONTENT
+    host: str = "127.0.0.1"
 
     def __post_init__(self) -> None:
-        self.listener = socket.create_server(("127.0.0.1", 0))
-        self.address = f"127.0.0.1:{self.listener.getsockname()[1]}"
+        is_six = ":" in self.host
+        self.listener = socket.create_server((self.host, 0), family=socket.AF_INET6 if is_six else socket.AF_INET)
+        self.address = (f"[{self.host}]" if is_six else self.host) + f":{self.listener.getsockname()[1]}"
         self.haves = self.blocks = self.connections = 0
         self.heard: list[int] = []  # the kinds of messages that came
         threading.Thread(target=self._accept, daemon=True).start()

@@ -12,7 +12,7 @@ from pathlib import Path
 
 from fetch import CLIENTS
 
-from .support import BLOCK, CONTENT, PIECE, PIECES, Downloading
+from .support import BLOCK, CONTENT, PIECE, PIECES, Downloading, Seeder
 
 BLOCKS = 161  # 40 pieces of four blocks, and one of one
 
@@ -41,6 +41,16 @@ class Single(Downloading):
 
     def test_parts(self) -> None:
         self.fetch(self.seeder(pieces=range(20)), self.seeder(pieces=range(15, PIECES)))
+        self.assert_same()
+
+    def test_six(self) -> None:
+        """A peer with an address of IPv6, where this machine has them."""
+        try:
+            seeder = Seeder(self.infohash, host="::1")
+        except OSError:
+            self.skipTest("the loopback interface has no IPv6")
+        self.addCleanup(seeder.close)
+        self.fetch(seeder)
         self.assert_same()
 
     def test_rejects(self) -> None:
