@@ -355,7 +355,7 @@ def exchanged(place: Place, who: str) -> Outcome:
 
 
 def by_web(place: Place, who: str) -> Outcome:
-    """A web server with ranges is the only seed, of some 20 MB a second for each connection, and there is no tracker."""
+    """A web server with ranges is the only seed, of some 20 MB a second for all connections, and there is no tracker."""
     server = WebServer({"/content": place.content.path.read_bytes()}, host=f"{NETWORK}1", rate=20.0 * MEGABYTE)
     place.infohash = place.content.torrent(place.torrent, web_seed=server.url, is_private=False)
     try:
@@ -363,6 +363,8 @@ def by_web(place: Place, who: str) -> Outcome:
             leecher = fetch(place, False, words=())
         elif who == "aria2":
             leecher = aria2(place, False, words=("--seed-time=0",))
+        elif who == "transmission":
+            leecher = transmission(place, False)
         else:
             leecher = libtorrent_peer(place, False)
         outcome = ended(place, [leecher])
@@ -374,6 +376,7 @@ def by_web(place: Place, who: str) -> Outcome:
 
 FOLDER = {f"{number % 7}/file {number}": 1 + number * number * 37 for number in range(200)} | {"large": 20 * MEGABYTE}
 ONE = ("fetch",)
+BY_LINK = ("fetch", "aria2", "libtorrent")
 TRIALS: dict[str, tuple[Callable[[Place, str], Outcome], tuple[str, ...], dict[str, int], int]] = {  # who downloads; files; piece length
     "transmission": (one_seeder("transmission"), ONE, {"": 24 * MEGABYTE}, PIECE_LENGTH),
     "qbittorrent": (one_seeder("qbittorrent"), ONE, {"": 200 * MEGABYTE}, PIECE_LENGTH),
@@ -389,10 +392,10 @@ TRIALS: dict[str, tuple[Callable[[Place, str], Outcome], tuple[str, ...], dict[s
     "by http": (by_opentracker("http"), ONE, {"": 24 * MEGABYTE}, PIECE_LENGTH),
     "swarm": (swarm, LEECHERS, {"": 30 * MEGABYTE}, PIECE_LENGTH),
     "mixed": (mixed, ONE, {"": 30 * MEGABYTE}, PIECE_LENGTH),
-    "magnet": (by_magnet, ("fetch", "aria2", "libtorrent"), {"": 48 * MEGABYTE}, PIECE_LENGTH),
-    "magnet given": (magnet_given, ("fetch", "aria2", "libtorrent"), {"": 48 * MEGABYTE}, PIECE_LENGTH),
+    "magnet": (by_magnet, BY_LINK, {"": 48 * MEGABYTE}, PIECE_LENGTH),
+    "magnet given": (magnet_given, BY_LINK, {"": 48 * MEGABYTE}, PIECE_LENGTH),
     "exchange": (exchanged, ("fetch", "aria2"), {"": 30 * MEGABYTE}, PIECE_LENGTH),
-    "web": (by_web, ("fetch", "aria2", "libtorrent"), {"": 200 * MEGABYTE}, PIECE_LENGTH),
+    "web": (by_web, (*LEECHERS, "libtorrent"), {"": 200 * MEGABYTE}, PIECE_LENGTH),
     "player": (played, ("fetch", *PLAYERS) * 3, {"": 24 * MEGABYTE}, PIECE_LENGTH),
     "large": (one_seeder("aria2"), LEECHERS, {"": 1 << 32}, 1 << 20),
 }

@@ -219,14 +219,17 @@ class Place:
             return False
 
     def wait_ended(self, clients: list[Client], longest: float) -> bool:
-        """Waits until each of these has ended by itself; whether that came in time and each content is right."""
+        """Waits until each of these has ended by itself; whether that came in time and each content is right.
+
+        transmission doesn't end. It has all once the file has its name.
+        """
         end = time.monotonic() + longest
         left = list(clients)
         while left and time.monotonic() < end:
             time.sleep(0.02)
             for client in list(left):
                 client.megabytes()
-                if client.process.poll() is not None:
+                if client.process.poll() is not None or (client.name == "transmission" and client.out.exists()):
                     client.seconds = time.monotonic() - client.began
                     left.remove(client)
         return not left and all(self.content.sums(client.out) == self.content.right for client in clients)

@@ -25,7 +25,9 @@ class WebServer:
 
     def __init__(self, files: dict[str, bytes], lies: str = "", host: str = "127.0.0.1", with_query: bool = True, rate: float = 0.0) -> None:
         self.files, self.lies, self.with_query = files, lies, with_query
-        self.rate = rate  # bytes a second of each connection; 0 is no limit
+        self.rate = rate  # bytes a second of all connections; 0 is no limit
+        self._due = 0.0  # when the next bytes may be sent
+        self._lock = threading.Lock()
         self.requests: list[tuple[str, str]] = []  # the path and the range of each
         server = self
 
@@ -82,13 +84,20 @@ class WebServer:
         for name, value in headers.items():
             handler.send_header(name, value)
         handler.end_headers()
-        view, due = memoryview(body), time.monotonic()
+        view = memoryview(body)
         while view:
+            self.wait_for(min(CHUNK, len(view)))
             handler.wfile.write(view[:CHUNK])
-            if self.rate:
-                due += min(CHUNK, len(view)) / self.rate
-                time.sleep(max(0.0, due - time.monotonic()))
             view = view[CHUNK:]
+
+    def wait_for(self, count: int) -> None:
+        """Waits until so many bytes may be sent."""
+        if not self.rate:
+            return
+        with self._lock:
+            begin = max(self._due, time.monotonic())
+            self._due = begin + count / self.rate
+        time.sleep(max(0.0, begin - time.monotonic()))
 
     @staticmethod
     def flood(handler: http.server.BaseHTTPRequestHandler) -> None:
