@@ -157,7 +157,7 @@ def _add_shown(parser: argparse.ArgumentParser) -> None:
 def _parser() -> argparse.ArgumentParser:
     raw = argparse.RawDescriptionHelpFormatter
     parser = argparse.ArgumentParser(prog="fetch.py", usage=USAGE, description=DESCRIPTION, epilog=ENDING, formatter_class=raw)
-    parser.add_argument("torrent", metavar="TORRENT", help="a metainfo file, its http or https address, or a magnet link")
+    parser.add_argument("torrent", metavar="TORRENT", nargs="?", help="a metainfo file, its http or https address, or a magnet link")
     parser.add_argument("words", metavar="OUT, HOST:PORT", nargs="*", help="where the content goes, peers that are known, and other torrents")
     parser.add_argument("--out", help="OUT by an option, for a name that looks like something else")
     _add_choice(parser)
@@ -199,6 +199,8 @@ def read(words: list[str]) -> Options:
     """The options of these words. A wrong one ends the program with status 2."""
     parser = _parser()
     given = vars(parser.parse_intermixed_args(words))
+    if given["torrent"] is None:
+        parser.error("TORRENT is missing: a metainfo file, its address, or a magnet link")
     given["levels"] = dict(given.pop("level"))
     given["dht_nodes"] = tuple(given["dht_nodes"]) or FIRST_NODES
     try:

@@ -24,6 +24,7 @@ class Ending:
     seconds: float
     givers: int
     reasons: str = ""
+    note: str = ""  # what the tracker's last answer was, where it is none
     knows_nobody: bool = False
     parts: tuple[str, ...] = ()
 
@@ -56,7 +57,7 @@ def _why(ending: Ending) -> list[str]:
         return [f"no peer brought anything. {ending.reasons}"]
     if ending.knows_nobody:
         return ["no peer is known: HOST:PORT behind OUT names one"]
-    return ["no peer brought anything"]
+    return [f"no peer was found. {printable(ending.note)}" if ending.note else "no peer was found"]
 
 
 def _beside(ending: Ending) -> list[str]:

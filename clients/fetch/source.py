@@ -71,7 +71,8 @@ class Following:
         if seeker.info is not None:
             return self._source(seeker.info)
         if seeker.is_stopping or (give_up is not None and time.monotonic() - self._began > give_up):
-            raise NotFound(f"nobody gave the info of the magnet link. {seeker.partings.line() or 'no peer was found'}")
+            note = seeker.announcer.note if seeker.announcer else ""
+            raise NotFound(f"nobody gave the info of the magnet link. {seeker.partings.line() or note or 'no peer was found'}")
         return None
 
     def _source(self, info: bytes) -> Source:

@@ -226,6 +226,7 @@ class Transfer:
             seconds=(self.finished or time.monotonic()) - self.began,
             givers=len(parts.swarm.partings.givers),
             reasons=parts.swarm.partings.line(),
+            note=parts.announcer.note,
             knows_nobody=self.finding.knows_nobody,
             parts=tuple(path for path in map(parts.storage.path_of, unwanted) if path.endswith(PART_SUFFIX) and os.path.exists(path)),
         )

@@ -93,6 +93,9 @@ class Single(Contact):
         self.assertIn(f"{closed}: Connection refused", self.errors)
         self.run_in("torrent", status=1)
         self.assertIn("HOST:PORT behind OUT names one", self.errors)
+        command = [word for word in PROGRAM if word != "--no-tracker"]  # the torrent's tracker isn't there
+        process = subprocess.run([*command, "--give-up", "2", "torrent"], cwd=self.folder, capture_output=True, text=True, timeout=60)
+        self.assertIn("no peer was found. http://127.0.0.1:9/announce: the tracker doesn't answer", process.stderr)
 
     def test_options_named(self) -> None:
         """What an option changes is said with its name."""

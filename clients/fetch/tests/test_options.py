@@ -26,6 +26,7 @@ class Read(unittest.TestCase):
 
     def test_refused(self) -> None:
         for words, told in (
+            ("", "TORRENT is missing"),
             ("a.torrent out 1.2.3.4", "no address"), ("a.torrent 1.2.3.4:99999", "no address"), ("--port 65536 a.torrent out", "65535"),
             ("--level 1=8 a.torrent out", "no level"), ("--level 1 a.torrent out", "no whole number"), ("--only 3-1 a.torrent out", "names no files"),
             ("--only 1-99999999999 a.torrent out", "names no files"), ("--peers 0 a.torrent out", "1 to 500"), ("--up -1 a.torrent out", "--up"),
