@@ -34,7 +34,7 @@ def announce(url: str, request: Announce, timeout: float = TIMEOUT, tracker_id: 
     try:
         data = web.get(address, LARGEST, timeout, source)
     except web.WebFault as fault:
-        raise TrackerFault(f"the tracker doesn't answer: {fault}".replace(": there is no answer", "")) from fault
+        raise TrackerFault(f"the tracker doesn't answer: {fault}") from fault
     return read(data)
 
 

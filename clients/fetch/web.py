@@ -74,6 +74,6 @@ def get(url: str, largest: int, seconds: float, source: str = "") -> bytes:
     except urllib.error.URLError as error:
         reason = error.reason
         text = reason.strerror if isinstance(reason, OSError) and reason.strerror else str(reason)
-        raise WebFault(f"there is no answer: {text}") from error
+        raise WebFault(text) from error
     except (OSError, http.client.HTTPException, ValueError) as error:
-        raise WebFault(f"there is no answer: {error}") from error
+        raise WebFault(str(error) or type(error).__name__) from error
