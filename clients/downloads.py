@@ -31,7 +31,12 @@ from dataclasses import dataclass, field
 from pathlib import Path
 from typing import IO
 
-from others import LOCAL, NETWORK, START, Client, Content, Place, aria2, enter_network, fetch, free_port, libtorrent, opentracker, transmission
+from fetch.dht.node import Node
+from fetch.tests.webservers import WebServer
+from others import (
+    LOCAL, NETWORK, READY, START, Client, Content, Place, aria2, enter_network, fetch, free_port, libtorrent, libtorrent_peer, opentracker,
+    transmission,
+)  # fmt: skip
 
 LONGEST = 150.0  # seconds of one download
 PIECE_LENGTH = 1 << 18
@@ -74,7 +79,7 @@ def figures_of(client: Client) -> str:
     """What the downloader of this folder printed at its end."""
     assert client.process.stdout
     told = json.loads(client.process.stdout.read() or b"{}")
-    names = ("blocks", "twice", "requests", "endgame_requests", "late_bitfields", "failed", "lost", "uploaded", "calls", "library")
+    names = ("seconds", "blocks", "twice", "requests", "endgame_requests", "late_bitfields", "failed", "lost", "uploaded", "calls", "library")
     return " ".join(f"{name}={told[name]}" for name in names if name in told)
 
 
@@ -272,8 +277,106 @@ def waits_least(outcomes: list[Outcome]) -> bool:
     return waits["fetch"] <= min(waits[who] for who in PLAYERS) + TOLERANCE
 
 
+def wait_announced(place: Place, first: str, seeders: int) -> None:
+    """Waits until so many peers are found by the DHT, which begins at this node."""
+    host, _ = place.address()
+    found: set[tuple[str, int]] = set()
+    came = threading.Event()
+
+    def hear(peers: list[tuple[str, int]]) -> None:
+        found.update(peers)
+        if len(found) >= seeders:
+            came.set()
+
+    node = Node(host, 0, [(first.partition(":")[0], int(first.partition(":")[2]))])
+    node.start()
+    node.search(place.infohash, 0, hear)
+    try:
+        if not came.wait(READY):
+            raise RuntimeError(f"of {seeders} seeders {len(found)} are found by the DHT")
+    finally:
+        node.close()
+
+
+def ended(place: Place, leechers: list[Client]) -> Outcome:
+    """Waits until each leecher has ended by itself, as it does when it has all. How much came twice only ours tells."""
+    is_well = place.wait_ended(leechers, LONGEST)
+    for client in place.clients:
+        client.process.kill()
+    told = [figures_of(client) for client in leechers if client.name == "fetch"]
+    twice = [int(word[6:]) << 14 for figures in told for word in figures.split() if word.startswith("twice=")]
+    return Outcome(
+        leechers[0].name, is_well, [client.seconds for client in leechers], max(client.megabytes() for client in leechers),
+        sum(twice) if len(twice) == len(leechers) else None, " | ".join(told),
+    )  # fmt: skip
+
+
+def by_link(place: Place, who: str, first: str) -> Client:
+    """A leecher by a magnet link with nothing but the infohash, whose DHT begins at this node. It ends when it has all."""
+    link = f"magnet:?xt=urn:btih:{place.infohash.hex()}"
+    if who == "fetch":
+        return fetch(place, False, words=("--dht", "--dht-node", first), torrent=link)
+    if who == "aria2":
+        words = ("--enable-dht=true", f"--dht-entry-point={first}", "--seed-time=0", f"--dht-file-path={place.folder / 'aria2.dat'}")
+        return aria2(place, False, words=words, torrent=link)
+    return libtorrent_peer(place, False, ("--node", first), torrent=link)
+
+
+def by_magnet(place: Place, who: str) -> Outcome:
+    """Three libtorrent clients of 4 MB a second have the content. No tracker is there, and the first one is the first node of the DHT."""
+    place.infohash = place.content.torrent(place.torrent, is_private=False)
+    at = place.address()
+    first = f"{at[0]}:{at[1]}"
+    for number in range(3):
+        libtorrent_peer(place, True, ("--node", first, "--up", "4000"), at=at if number == 0 else None)
+    wait_announced(place, first, 3)
+    return ended(place, [by_link(place, who, first)])
+
+
+def magnet_given(place: Place, who: str) -> Outcome:
+    """The downloader of this folder gives info and content, of 12 MB a second, and is the first node of the DHT."""
+    place.infohash = place.content.torrent(place.torrent, is_private=False)
+    nobody = f"{NETWORK}1:9"  # else the public nodes would be asked for, which this network hasn't
+    seeder = place.wait_ready(fetch(place, True, 12000, words=("--dht", "--dht-node", nobody, "--seed-minutes", "10")))
+    return ended(place, [by_link(place, who, seeder.address)])
+
+
+def exchanged(place: Place, who: str) -> Outcome:
+    """Five leechers of one kind. The tracker names none but the seeder, which gives 1 MB a second: the others are known by peer exchange alone."""
+    place.infohash = place.content.torrent(place.torrent, place.tracker.url, is_private=False)
+    seeder = libtorrent_peer(place, True, ("--up", "1000", "--exchange"))
+    place.tracker.only = (seeder.host, seeder.port)
+    place.wait_ready(seeder)
+    if who == "fetch":
+        leechers = [fetch(place, False) for _ in range(5)]
+    else:
+        leechers = [aria2(place, False, words=("--enable-peer-exchange=true",)) for _ in range(5)]
+    return finish(place, leechers)
+
+
+def by_web(place: Place, who: str) -> Outcome:
+    """A web server with ranges is the only seed, of some 20 MB a second for all connections, and there is no tracker."""
+    server = WebServer({"/content": place.content.path.read_bytes()}, host=f"{NETWORK}1", rate=20.0 * MEGABYTE)
+    place.infohash = place.content.torrent(place.torrent, web_seed=server.url, is_private=False)
+    try:
+        if who == "fetch":
+            leecher = fetch(place, False, words=())
+        elif who == "aria2":
+            leecher = aria2(place, False, words=("--seed-time=0",))
+        elif who == "transmission":
+            leecher = transmission(place, False)
+        else:
+            leecher = libtorrent_peer(place, False)
+        outcome = ended(place, [leecher])
+        outcome.more += f" ranges={len(server.requests)}"
+        return outcome
+    finally:
+        server.close()
+
+
 FOLDER = {f"{number % 7}/file {number}": 1 + number * number * 37 for number in range(200)} | {"large": 20 * MEGABYTE}
 ONE = ("fetch",)
+BY_LINK = ("fetch", "aria2", "libtorrent")
 TRIALS: dict[str, tuple[Callable[[Place, str], Outcome], tuple[str, ...], dict[str, int], int]] = {  # who downloads; files; piece length
     "transmission": (one_seeder("transmission"), ONE, {"": 24 * MEGABYTE}, PIECE_LENGTH),
     "qbittorrent": (one_seeder("qbittorrent"), ONE, {"": 200 * MEGABYTE}, PIECE_LENGTH),
@@ -289,6 +392,10 @@ TRIALS: dict[str, tuple[Callable[[Place, str], Outcome], tuple[str, ...], dict[s
     "by http": (by_opentracker("http"), ONE, {"": 24 * MEGABYTE}, PIECE_LENGTH),
     "swarm": (swarm, LEECHERS, {"": 30 * MEGABYTE}, PIECE_LENGTH),
     "mixed": (mixed, ONE, {"": 30 * MEGABYTE}, PIECE_LENGTH),
+    "magnet": (by_magnet, BY_LINK, {"": 48 * MEGABYTE}, PIECE_LENGTH),
+    "magnet given": (magnet_given, BY_LINK, {"": 48 * MEGABYTE}, PIECE_LENGTH),
+    "exchange": (exchanged, ("fetch", "aria2"), {"": 30 * MEGABYTE}, PIECE_LENGTH),
+    "web": (by_web, (*LEECHERS, "libtorrent"), {"": 200 * MEGABYTE}, PIECE_LENGTH),
     "player": (played, ("fetch", *PLAYERS) * 3, {"": 24 * MEGABYTE}, PIECE_LENGTH),
     "large": (one_seeder("aria2"), LEECHERS, {"": 1 << 32}, 1 << 20),
 }

@@ -104,14 +104,18 @@ class Content:
             at += self.piece_length
         return data[at:]
 
-    def torrent(self, path: Path, announce: str) -> bytes:
+    def torrent(self, path: Path, announce: str = "", web_seed: str = "", is_private: bool = True) -> bytes:
         """Writes the metainfo file, and gives the infohash."""
-        info: dict[bytes, Value] = {b"name": b"content", b"piece length": self.piece_length, b"pieces": bytes(self.digests), b"private": 1}
+        info: dict[bytes, Value] = {b"name": b"content", b"piece length": self.piece_length, b"pieces": bytes(self.digests)}
+        if is_private:
+            info[b"private"] = 1
         if "" in self.lengths:
             info[b"length"] = self.total
         else:
             info[b"files"] = [{b"length": length, b"path": list(name.encode().split(b"/"))} for name, length in self.lengths.items()]
-        path.write_bytes(bencode({b"announce": announce.encode(), b"info": info}))
+        more: dict[bytes, Value] = {b"announce": announce.encode()} if announce else {}
+        more |= {b"url-list": web_seed.encode()} if web_seed else {}
+        path.write_bytes(bencode({b"info": info, **more}))
         return hashlib.sha1(bencode(info)).digest()
 
     def sums(self, at: Path) -> dict[str, str]:
@@ -214,6 +218,22 @@ class Place:
         except OSError:
             return False
 
+    def wait_ended(self, clients: list[Client], longest: float) -> bool:
+        """Waits until each of these has ended by itself; whether that came in time and each content is right.
+
+        transmission doesn't end. It has all once the file has its name.
+        """
+        end = time.monotonic() + longest
+        left = list(clients)
+        while left and time.monotonic() < end:
+            time.sleep(0.02)
+            for client in list(left):
+                client.megabytes()
+                if client.process.poll() is not None or (client.name == "transmission" and client.out.exists()):
+                    client.seconds = time.monotonic() - client.began
+                    left.remove(client)
+        return not left and all(self.content.sums(client.out) == self.content.right for client in clients)
+
     def has_all(self, client: Client) -> bool:
         """Whether the client has told the tracker that it has all. rtorrent says that late, so that its files are looked at."""
         if client.name == "rtorrent":
@@ -266,15 +286,20 @@ def keep_pieces(path: Path, piece_length: int, keeps: Callable[[int], bool]) -> 
     path.write_bytes(data)
 
 
-def aria2(place: Place, seeds: bool, kilobytes: int = 0, keeps: Callable[[int], bool] | None = None) -> Client:
-    """aria2; it sends so many kilobytes a second at most, or as it can. Where it keeps some pieces alone, it downloads the others."""
+def aria2(
+    place: Place, seeds: bool, kilobytes: int = 0, keeps: Callable[[int], bool] | None = None, words: tuple[str, ...] = (), torrent: str = ""
+) -> Client:
+    """aria2; it sends so many kilobytes a second at most, or as it can. Where it keeps some pieces alone, it downloads the others.
+
+    Of its words the last one of an option counts, so that others may turn on what is off here.
+    """
     (host, port), room = place.address(), place.room("aria2", seeds)
     if keeps:
         keep_pieces(room / "content", place.content.piece_length, keeps)
     command = [
         "aria2c", "--no-conf", f"--interface={host}", f"--listen-port={port}", "--enable-dht=false", "--enable-dht6=false",
         "--bt-enable-lpd=false", "--enable-peer-exchange=false", "--seed-ratio=0.0", "--allow-overwrite=true", "--file-allocation=falloc",
-        f"--max-overall-upload-limit={kilobytes}K", f"--dir={room}", str(place.torrent),
+        f"--max-overall-upload-limit={kilobytes}K", f"--dir={room}", *words, torrent or str(place.torrent),
     ]  # fmt: skip
     return place.start("aria2", command + (["--check-integrity=true"] if seeds else []), host, port, room / "content")
 
@@ -329,6 +354,14 @@ def libtorrent(place: Place, rate: int, seconds: int, is_sequential: bool) -> Cl
     return place.start("libtorrent", command, host, port, room / "content", subprocess.PIPE)
 
 
+def libtorrent_peer(place: Place, seeds: bool, words: tuple[str, ...] = (), torrent: str = "", at: tuple[str, int] | None = None) -> Client:
+    """libtorrent-rasterbar by its own settings, as a seeder, or as a leecher that ends when it has all."""
+    (host, port), room = at or place.address(), place.room("libtorrent", seeds)
+    script = str(HERE / "fetch" / "tests" / "libtorrent_peer.py")
+    command = ["/usr/bin/python3", script, torrent or str(place.torrent), str(room), host, str(port), *words, *(["--seeds"] if seeds else [])]
+    return place.start("libtorrent", command, host, port, room / "content")
+
+
 def opentracker(place: Place) -> int:
     """Starts opentracker for this torrent alone, as Debian builds it; its port, by HTTP and by UDP."""
     host, room = f"{NETWORK}1", place.room("opentracker", False)
@@ -345,12 +378,16 @@ def opentracker(place: Place) -> int:
     raise RuntimeError("opentracker doesn't answer")
 
 
-def fetch(place: Place, seeds: bool, kilobytes: int = 0, words: tuple[str, ...] = ("--seed-minutes", "10"), peers: tuple[str, ...] = ()) -> Client:
-    """The downloader of this folder."""
+def fetch(
+    place: Place, seeds: bool, kilobytes: int = 0, words: tuple[str, ...] = ("--seed-minutes", "10"), peers: tuple[str, ...] = (),
+    torrent: str = "",
+) -> Client:
+    """The downloader of this folder. It has no DHT, unless its words say so."""
     (host, port), room = place.address(), place.room("fetch", seeds)
-    command = [sys.executable, str(HERE / "fetch.py"), "--quiet", "--json", "--bind", host, "--port", str(port), *words]
+    command = [sys.executable, str(HERE / "fetch.py"), "--quiet", "--json", "--no-dht", "--bind", host, "--port", str(port), *words]
     command += ["--up", str(kilobytes)] if kilobytes else []
-    return place.start("fetch", [*command, str(place.torrent), str(room / "content"), *peers], host, port, room / "content", subprocess.PIPE)
+    command += [torrent or str(place.torrent), str(room / "content"), *peers]
+    return place.start("fetch", command, host, port, room / "content", subprocess.PIPE)
 
 
 START: dict[str, Callable[..., Client]] = {

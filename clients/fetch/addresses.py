@@ -2,14 +2,31 @@
 
 from __future__ import annotations
 
+import ipaddress
 import random
+import socket
 from dataclasses import dataclass
+from enum import Enum
 
 from .blame import Address
 
 FIRST_DELAY = 2.0  # seconds after the first failure; each one doubles it
 LONGEST_DELAY = 600.0
 MOST_KNOWN = 2000
+MOST_FAILURES = 8  # of an address that nobody but a peer or the DHT has told, until it is forgotten
+
+
+class Origin(Enum):
+    """Who told an address. The user's are never forgotten, and of the others so many are kept at most."""
+
+    USER = "the user"
+    TRACKER = "a tracker"
+    EXCHANGE = "a peer"
+    DHT = "the DHT"
+    LOCAL = "the local network"
+
+
+MOST_OF = {Origin.USER: 1 << 30, Origin.TRACKER: MOST_KNOWN, Origin.EXCHANGE: 800, Origin.DHT: 800, Origin.LOCAL: 100}
 
 
 @dataclass
@@ -17,7 +34,7 @@ class Known:
     """An address, and how it went there so far."""
 
     address: Address
-    is_given: bool = False  # by the user, so that it is never forgotten
+    origin: Origin = Origin.TRACKER
     is_in_use: bool = False
     failures: int = 0
     next_try: float = 0.0
@@ -28,16 +45,30 @@ class Addresses:
 
     def __init__(self) -> None:
         self.known: dict[Address, Known] = {}
+        self.counts = dict.fromkeys(Origin, 0)
         self.banned: set[Address] = set()
         self.banned_hosts: set[str] = set()
 
-    def add(self, address: Address, is_given: bool = False) -> None:
-        """An address was told."""
+    def add(self, address: Address, origin: Origin = Origin.TRACKER) -> None:
+        """An address was told. There is room for the user's in any case, and for some of each other origin."""
         if address[1] == 0 or address in self.known or self.is_banned(address):
             return
-        if len(self.known) >= MOST_KNOWN and not is_given:
+        is_full = len(self.known) >= MOST_KNOWN or self.counts[origin] >= MOST_OF[origin]
+        if is_full and origin is not Origin.USER:
             return
-        self.known[address] = Known(address, is_given)
+        self.counts[origin] += 1
+        self.known[address] = Known(address, origin)
+
+    def hear(self, peers: list[Address], origin: Origin, teller: Address | None = None) -> None:
+        """Others told of these peers. Those that can't be peers aren't taken, nor our own machine from who isn't on it."""
+        is_local = teller is not None and is_loopback(teller[0])
+        for address in peers:
+            if is_possible(address[0]) and (is_local or not is_loopback(address[0])):
+                self.add(address, origin)
+
+    def _remove(self, address: Address) -> None:
+        if known := self.known.pop(address, None):
+            self.counts[known.origin] -= 1
 
     def due(self, now: float) -> Known | None:
         """One that may be tried now: the one that waits for the longest time."""
@@ -50,6 +81,8 @@ class Addresses:
             known.is_in_use = False
             known.failures += 1
             known.next_try = now + delay(known.failures) * random.uniform(0.8, 1.2)
+            if known.failures >= MOST_FAILURES and known.origin in (Origin.EXCHANGE, Origin.DHT):
+                self._remove(address)
 
     def ended(self, address: Address, now: float) -> None:
         """A connection that brought something is gone."""
@@ -64,19 +97,30 @@ class Addresses:
 
     def forget(self, address: Address) -> None:
         """It leads to ourselves."""
-        self.known.pop(address, None)
+        self._remove(address)
         self.banned.add(address)
 
     def ban(self, address: Address) -> None:
         """Who is there sent wrong data. Its whole host is banned, but for our own machine, where other peers may be."""
-        self.known.pop(address, None)
+        self._remove(address)
         self.banned.add(address)
         if not is_loopback(address[0]):
             self.banned_hosts.add(address[0])
+            for other in [other for other in self.known if other[0] == address[0]]:
+                self._remove(other)
 
     def is_banned(self, address: Address) -> bool:
         """Whether nothing may come from there."""
         return address in self.banned or address[0] in self.banned_hosts
+
+
+def is_possible(host: str) -> bool:
+    """Whether a peer may be there: neither everybody, nor nobody, nor a name."""
+    try:
+        number = ipaddress.ip_address(host)
+    except ValueError:
+        return False
+    return not (number.is_multicast or number.is_unspecified or number.is_reserved)
 
 
 def is_loopback(host: str) -> bool:
@@ -96,3 +140,12 @@ def parse(text: str) -> Address:
     if not colon or not host or not port.isascii() or not port.isdigit() or not 0 < int(port) < 1 << 16:
         raise ValueError(f"{text!r} is no address: HOST:PORT is one")
     return host, int(port)
+
+
+def looked_up(address: Address) -> Address:
+    """The address with its number in place of a name. Raises ValueError."""
+    try:
+        where = socket.getaddrinfo(*address, type=socket.SOCK_STREAM)[0][4]
+    except OSError as error:
+        raise ValueError(f"{address[0]}: {error.strerror}") from error
+    return str(where[0]), int(where[1])

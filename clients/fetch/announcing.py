@@ -121,14 +121,15 @@ class Announcer:
                 return Outcome(request.event, url, told)
         return Outcome(request.event, faults=tuple(faults))
 
-    def stop(self) -> None:
-        """Tells the tracker that knows us what it doesn't know yet and that we go, and doesn't wait for long."""
+    def stop(self, waits: bool = True) -> None:
+        """Tells the tracker that knows us what it doesn't know yet and that we go, and doesn't wait for long, or not at all."""
         if not self.current:
             return
         requests = [self.fill(event) for event in (*self._events, Event.STOPPED)]
         last = threading.Thread(target=self._say_last, args=[self.current, requests], name="announce", daemon=True)
         last.start()
-        last.join(STOP_SECONDS)
+        if waits:
+            last.join(STOP_SECONDS)
 
     def _say_last(self, url: str, requests: list[Announce]) -> None:
         try:

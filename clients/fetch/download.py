@@ -1,206 +1,134 @@
-"""One download from its metainfo file to its end: prepares its parts, and runs the loop."""
+"""A download that another program runs."""
 
 from __future__ import annotations
 
-import os
-import socket
-import time
-from collections.abc import Iterable
+from collections.abc import Iterator
+from contextlib import closing
+from dataclasses import dataclass
+from types import TracebackType
 from typing import Any
 
-from .layout import levels_of, printable
-from .options import Options
-from .parts import Parts
-from .picture import draw
-from .progress import Progress, State, line, size
-from .recorder import Recorder
-from .serving import Gate, Server, Urgent
-from .watch import Watch
-
-SAVE_SECONDS = 2.0
+from . import magnet
+from .options import FIRST_NODES, Options
+from .progress import State
+from .reach import Reach
+from .source import Following, Source, is_magnet, read
+from .transfer import Interrupted, Transfer
 
 
-class Interrupted(Exception):
-    """The user has ended the program while it looked at what is there."""
+@dataclass(frozen=True)
+class FileProgress:
+    """A file of the torrent: its number from 1 on, its path below the folder, its bytes, its level, and the share of it that is there."""
+
+    number: int
+    path: str
+    length: int
+    level: int
+    share: float
 
 
 class Download:
-    """Runs the parts. `prepare` comes first, then `run`, and `close` in any case."""
+    """A download, which runs while it is iterated over.
 
-    def __init__(self, options: Options, metainfo: bytes) -> None:
-        self.options, self.parts = options, Parts(options, metainfo)
-        self.progress = Progress(options.quiet or options.watches)
-        self.watch = Watch() if options.watches else None
-        self.server: Server | None = None
-        self.urgent: Urgent | None = None
-        self.began = time.monotonic()
-        self.finished: float | None = None
-        self.restored_count = 0
-        self.wanted: list[int] = []  # pieces
-        self._saved = 0.0
-        self._has_told = False  # that the state can't be written
-        self._newest = self.began  # when a block came last
+        with Download("file.torrent", "folder/", only={1, 3}) as download:
+            for progress in download:
+                print(f"{progress.done} of {progress.wanted} bytes from {progress.peers} peers")
+        print(download.is_complete)
 
-    def prepare(self) -> None:
-        """Looks at what is on the disk, takes the room for the rest, and tells the picker what is wanted."""
-        parts = self.parts
-        parts.content.restore(self._tell_check, self.options.replaces)
-        self.progress.end()
-        self.restored_count = parts.content.had_count
-        parts.storage.prepare(parts.wanted_files)
-        levels = levels_of(parts.layout, parts.levels)
-        self.wanted = [piece for piece, level in enumerate(levels) if level > 0]
-        parts.picker.set_levels(levels)
-        parts.picker.set_in_order(self.options.in_order)
-        if self.options.serve is not None:
-            self._serve(self.options.serve, levels)
-        for host, port in self.options.peers:
-            for _, _, _, _, where in socket.getaddrinfo(host, port, type=socket.SOCK_STREAM)[:1]:
-                parts.swarm.addresses.add((str(where[0]), int(where[1])), is_given=True)
-        self.began = self._newest = time.monotonic()
+    The torrent is a path, an address of the web, a magnet link, or the bytes of a metainfo file. `out` is the file or the folder, as OUT of the
+    program is. The other choices have the names of the fields of `fetch.options.Options`: `peers`, `only`, `levels`, `in_order`, `port`, `bind`,
+    `down_limit`, `seed_ratio`, `give_up`, .. The DHT is used with `uses_dht=True`.
 
-    def _tell_check(self, done: int, pieces: int) -> None:
-        """Shows how far the check at the start is. Raises Interrupted where the user ends it."""
-        self.progress.check(done, pieces)
-        if self.parts.swarm.is_stopping:
-            raise Interrupted
+    Each turn of the iteration is a State, some times a second: `done`, `wanted`, `down`, `up`, `peers`, `pieces_done`, `pieces`, `note`. The last
+    one stands for the end. The iteration ends when all that is wanted is there and given as often as was chosen, after `stop`, or when nothing has
+    come for `give_up` seconds. It raises MetainfoFault, StorageFault, NotFound, ValueError or OSError, as the program has a sentence for each.
+    What it has done stays on the disk, and another Download with the same torrent and the same `out` goes on.
 
-    def _serve(self, port: int, levels: bytes) -> None:
-        """Lets players read. Raises OSError where the port can't be had."""
-        gate = Gate(self.parts.content, self.parts.swarm.wake)
-        self.server, self.urgent = Server(port, gate), Urgent(gate, self.parts.session, levels, self.options.in_order)
-        self.parts.swarm.on_verdict = lambda verdict: gate.came()
-        self.server.start()
-        self.progress.say(f"players find the files at {self.server.url}")
+    All calls are for one thread, but `stop`. No signal is handled, and nothing is printed but warnings.
+    """
 
-    def run(self) -> bool:
-        """Downloads, and uploads as long as is wanted; whether all that is wanted is there."""
-        parts, session = self.parts, self.parts.session
-        while not parts.swarm.is_stopping and not self._is_over():
-            parts.swarm.turn()
-            now = session.now
-            if now - self._saved >= SAVE_SECONDS:
-                self._saved = now
-                self._save()
-            for address in parts.announcer.tick(now, len(session.peers)):
-                parts.swarm.addresses.add(address)
-            if self.urgent:
-                self.urgent.tick()
-            if self.watch and self.watch.is_due(now):
-                self.watch.draw(session, line(self.state(now)))
-            if self.progress.is_due(now):
-                self.progress.show(self.state(now), now)
-        return parts.picker.has_wanted
+    def __init__(self, torrent: str | bytes, out: str = "", **choices: Any) -> None:
+        if choices.get("uses_dht"):
+            choices.setdefault("dht_nodes", FIRST_NODES)
+        self._metainfo = torrent if isinstance(torrent, bytes) else None
+        self.options = Options("" if isinstance(torrent, bytes) else torrent, out, quiet=True, **choices)
+        self._reach = Reach(self.options)
+        self._transfer: Transfer | None = None
+        self._is_stopping = self._is_closed = False
 
-    @property
-    def is_part(self) -> bool:
-        """Whether some pieces aren't wanted."""
-        return len(self.wanted) < self.parts.layout.pieces
+    def __enter__(self) -> Download:
+        return self
 
-    def _bytes_of(self, pieces: Iterable[int]) -> int:
-        """The bytes of these pieces."""
-        return sum(map(self.parts.layout.length_of, pieces))
+    def __exit__(self, kind: type[BaseException] | None, error: BaseException | None, trace: TracebackType | None) -> None:
+        self.close()
 
-    def _is_over(self) -> bool:
-        """Whether there is nothing more to do."""
-        now = time.monotonic()
-        if self.parts.picker.has_wanted:
-            if self.finished is None:
-                self._finish(now)
-            return not self._seeds_on(now)
-        self._newest = max([self._newest, *(peer.block_came for peer in self.parts.session.peers.values())])
-        return self.options.give_up is not None and now - self._newest > self.options.give_up
+    def __iter__(self) -> Iterator[State]:
+        """Runs the download."""
+        if self._is_closed:
+            raise ValueError("the download is closed")
+        source: Source | None = Source(self._metainfo) if self._metainfo is not None else None
+        if source is None and not is_magnet(self.options.torrent):
+            source = read(self.options)
+        if source is None:
+            with closing(Following(magnet.parse(self.options.torrent), self.options, self._reach)) as following:
+                while (source := following.turn()) is None:
+                    following.seeker.is_stopping = self._is_stopping
+                    yield State(0, 0, 0.0, 0.0, len(following.seeker.links), note=following.line)
+        yield from self._run(source)
 
-    def _finish(self, now: float) -> None:
-        """All that is wanted is there."""
-        self.finished = now
-        self._save()
-        if self.parts.content.had_count == self.parts.layout.pieces > self.restored_count:
-            self.parts.announcer.complete()
-
-    def _seeds_on(self, now: float) -> bool:
-        """Whether more is to be uploaded after all is there."""
-        options = self.options
-        if self.server:
-            return True
-        sent = self.parts.uploads.total - self.parts.swarm.unsent
-        if options.seed_ratio is not None and sent < options.seed_ratio * self.parts.layout.total:
-            return True
-        return options.seed_minutes is not None and self.finished is not None and now - self.finished < 60.0 * options.seed_minutes
-
-    def _save(self) -> None:
-        """Writes the state file. It is a hint alone, so a full disk is no reason to end."""
+    def _run(self, source: Source) -> Iterator[State]:
+        self._transfer = transfer = self._transfer or Transfer(self.options, source.metainfo, self._reach)
+        for address, origin in source.peers:
+            transfer.parts.swarm.addresses.add(address, origin)
         try:
-            self.parts.content.save()
-        except OSError as error:
-            if not self._has_told:
-                self._has_told = True
-                self.progress.say(f"the state can't be written: {error.strerror}")
+            transfer.prepare()
+        except Interrupted:
+            return
+        told = transfer.latest
+        while not self._is_stopping and transfer.turn():
+            if transfer.latest is not told:
+                told = transfer.latest
+                yield told
+        transfer.latest = transfer.state(transfer.parts.session.now)
+        yield transfer.latest
 
-    def state(self, now: float) -> State:
-        """What the progress line tells."""
-        content, peers = self.parts.content, self.parts.session.peers.values()
-        return State(
-            done=self._bytes_of(filter(content.has, self.wanted)) if self.is_part else content.had_bytes,
-            wanted=self._bytes_of(self.wanted) if self.is_part else self.parts.layout.total,
-            down=sum(peer.down.per_second(now) for peer in peers),
-            up=sum(peer.up.per_second(now) for peer in peers),
-            peers=len(peers),
-            note=self.parts.announcer.note,
-        )
+    def stop(self) -> None:
+        """Ends the iteration soon. Any thread may call it."""
+        self._is_stopping = True
+        if self._transfer:
+            self._transfer.parts.swarm.is_stopping = True
+            self._transfer.parts.swarm.wake()
 
     def close(self) -> None:
-        """Ends all, and writes the state."""
-        if self.watch:
-            self.watch.close()
-        if self.server:
-            self.server.close()
-        self.parts.stop()
-        self._save()
-        self.parts.storage.close()
-        self.progress.end()
-        if self.parts.recorder and self.options.picture:
-            self._draw(self.parts.recorder, self.options.picture)
+        """Ends all connections, and writes down what is there. It is called at the end of the `with` block."""
+        if not self._is_closed:
+            self._is_closed = True
+            if self._transfer:
+                self._transfer.close()
+            self._reach.close()
 
-    def _draw(self, recorder: Recorder, path: str) -> None:
-        """Writes the picture."""
-        name = os.path.basename(self.parts.root) or "a download"
-        title = f"{name}: {size(self.parts.layout.total)} in {recorder.trace.end:.1f} s"
-        try:
-            with open(path, "w", encoding="utf-8") as file:
-                file.write(draw(recorder.trace, printable(title), self.options.by_rarity))
-        except OSError as error:
-            self.progress.say(f"the picture can't be written: {error.strerror}")
+    @property
+    def is_complete(self) -> bool:
+        """Whether all that is wanted is there."""
+        return self._transfer is not None and self._transfer.parts.picker.has_wanted
+
+    @property
+    def path(self) -> str:
+        """The file or the folder; empty before the torrent is known."""
+        return self._transfer.parts.root if self._transfer else ""
+
+    @property
+    def files(self) -> list[FileProgress]:
+        """The files, as they are now; none before the torrent is known."""
+        rows = self._transfer.levels.rows() if self._transfer else []
+        return [FileProgress(row.file.number, row.file.path, row.file.length, row.level, row.share) for row in rows]
+
+    def choose(self, number: int, level: int) -> None:
+        """A file gets another level, in the midst of the iteration: 0 is not downloaded, 4 is usual, 7 comes first. Raises ValueError."""
+        if self._transfer is None or number not in self._transfer.parts.levels or not 0 <= level <= 7:
+            raise ValueError(f"there is no file {number}, or no level {level}")
+        self._transfer.levels.choose(number, level)
 
     def figures(self) -> dict[str, Any]:
-        """What happened, in numbers."""
-        parts, figures = self.parts, self.parts.session.figures
-        end = self.finished or time.monotonic()
-        told: dict[str, Any] = {
-            "complete": parts.picker.has_wanted,
-            "seconds": round(end - self.began, 3),
-            "bytes": parts.layout.total,
-            "had": parts.content.had_bytes,
-            "restored": parts.content.restored_bytes,
-            "uploaded": parts.uploads.total,
-            "downloaded": figures.bytes,
-            "blocks": figures.blocks,
-            "twice": figures.twice,
-            "unasked": figures.unasked,
-            "requests": figures.requests,
-            "endgame_requests": figures.endgame_requests,
-            "cancels": figures.cancels,
-            "rejects": figures.rejects,
-            "late_bitfields": figures.late_bitfields,
-            "timeouts": figures.timeouts,
-            "failed": parts.content.failed,
-            "discarded": parts.content.discarded,
-            "connections": parts.swarm.connections,
-            "lost": parts.swarm.lost,
-            "banned": parts.swarm.banned,
-            "alone": parts.session.suspects.told,
-            "announces": parts.announcer.announces,
-        }
-        if parts.metered:
-            told |= {"calls": parts.metered.calls, "library": round(parts.metered.seconds, 3)}
-        return told
+        """What happened in numbers, by the names that the program prints with --figures; empty before the torrent is known."""
+        return self._transfer.figures() if self._transfer else {}

@@ -10,6 +10,7 @@ from dataclasses import dataclass
 from .metainfo import MetainfoFault
 
 BLOCK = 1 << 14  # bytes that one request asks for
+HIGHEST = 7  # level
 
 
 @dataclass(frozen=True)
@@ -99,10 +100,12 @@ class Layout:
         return range(file.begin // self.piece_length, (file.begin + file.length - 1) // self.piece_length + 1)
 
 
-def levels_of(layout: Layout, levels: dict[int, int]) -> bytes:
-    """The level of each piece: the highest one of the files in it, each told by its number."""
+def levels_of(layout: Layout, levels: dict[int, int], ends_first: bool = False) -> bytes:
+    """The level of each piece: the highest one of the files in it, each told by its number. The ends of files may be one level higher."""
     pieces = bytearray(layout.pieces)
     for file in layout.files:
-        for piece in layout.pieces_of(file):
-            pieces[piece] = max(pieces[piece], levels[file.number])
+        inside, level = layout.pieces_of(file), levels[file.number]
+        for piece in inside:
+            is_end = ends_first and level > 0 and piece in (inside[0], inside[-1])
+            pieces[piece] = max(pieces[piece], min(level + is_end, HIGHEST))
     return bytes(pieces)

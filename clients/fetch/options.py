@@ -1,23 +1,13 @@
-"""The command line."""
+"""What the user has chosen."""
 
 from __future__ import annotations
 
-import argparse
-import os
-from collections.abc import Callable
-from dataclasses import dataclass, field
-from typing import TypeVar
+from dataclasses import dataclass, field, replace
 
-from . import addresses
 from .blame import Address
 
-MOST_FILES = 1 << 20
-DESCRIPTION = "Downloads a torrent (BEP 3), and shows how the piece picker chooses."
-ENDING = """\
-OUT is the file, or the folder of a torrent of many files. Where it ends with a slash, the torrent's own name is put behind it.
-The status is 0 where all that is wanted is there, 1 where it isn't, 2 for a wrong command line, 3 for a metainfo file that can't be
-used, and 4 where the disk can't do it. A download that was ended goes on where it was when the same command is given again.
-"""
+# Where the public DHT begins, as other clients have it.
+FIRST_NODES: tuple[Address, ...] = (("router.bittorrent.com", 6881), ("dht.transmissionbt.com", 6881), ("dht.libtorrent.org", 25401))
 
 
 @dataclass(frozen=True)
@@ -25,20 +15,29 @@ class Options:
     """What the user has chosen."""
 
     torrent: str
-    out: str
+    out: str = ""  # the torrent's own name where it is empty
     peers: list[Address] = field(default_factory=list)
+    more: tuple[str, ...] = ()  # other torrents
+    at_once: int = 5  # torrents
     lists: bool = False
     only: set[int] | None = None
     levels: dict[int, int] = field(default_factory=dict)
     in_order: bool = False
+    ends_first: bool = False
     serve: int | None = None
     port: int | None = None
     bind: str = ""
     listens: bool = True
     most_peers: int = 50
     slots: int = 4
-    up_limit: int | None = None
+    up_limit: int | None = None  # kilobytes a second
+    down_limit: int | None = None
     asks_trackers: bool = True
+    uses_dht: bool = False
+    dht_nodes: tuple[Address, ...] = ()  # where the way into the DHT begins
+    uses_local: bool = False
+    exchanges_peers: bool = True
+    uses_web_seeds: bool = True
     seed_ratio: float | None = None
     seed_minutes: float | None = None
     give_up: float | None = None
@@ -47,123 +46,12 @@ class Options:
     by_rarity: bool = False
     watches: bool = False
     as_json: bool = False
+    with_figures: bool = False
+    is_verbose: bool = False
     quiet: bool = False
     meters: bool = False
     askers: int = 2
 
-
-T = TypeVar("T")
-
-
-def _told(parse: Callable[[str], T]) -> Callable[[str], T]:
-    """The same parser, whose fault the user is told in its own words."""
-
-    def parse_or_tell(text: str) -> T:
-        try:
-            return parse(text)
-        except ValueError as fault:
-            raise argparse.ArgumentTypeError(str(fault)) from fault
-
-    return parse_or_tell
-
-
-def _whole(text: str) -> int:
-    """A number in decimal digits."""
-    if not text.isascii() or not text.isdigit() or len(text) > 18:
-        raise ValueError(f"{text!r} is no whole number")
-    return int(text)
-
-
-def _between(least: int, most: int) -> Callable[[str], int]:
-    """A number in these bounds."""
-
-    def parse(text: str) -> int:
-        if not least <= (number := _whole(text)) <= most:
-            raise ValueError(f"{number} isn't {least} to {most}")
-        return number
-
-    return _told(parse)
-
-
-@_told
-def _numbers(text: str) -> set[int]:
-    """Files by number: 1,3-5."""
-    numbers: set[int] = set()
-    for part in text.split(","):
-        first, dash, last = part.partition("-")
-        begin, end = _whole(first), _whole(last if dash else first)
-        if not begin <= end < MOST_FILES:
-            raise ValueError(f"{part!r} names no files")
-        numbers.update(range(begin, end + 1))
-    return numbers
-
-
-@_told
-def _level(text: str) -> tuple[int, int]:
-    """A file's number and its level: 2=7."""
-    number, _, level = text.partition("=")
-    if _whole(level) > 7:
-        raise ValueError(f"{level} is no level: 0 to 7 are")
-    return _whole(number), _whole(level)
-
-
-@_told
-def _amount(text: str) -> float:
-    """A number that isn't negative, perhaps with a fraction."""
-    if not 0 <= (number := float(text)) < 1e12:
-        raise ValueError(f"{text!r} is no amount")
-    return number
-
-
-_port, _count = _between(0, 65535), _between(0, 1 << 30)
-# The library has room for 1,024 workers, and each peer may need two numbers.
-_peers = _between(1, 500)
-
-
-def _parser() -> argparse.ArgumentParser:
-    parser = argparse.ArgumentParser(prog="fetch.py", description=DESCRIPTION, epilog=ENDING, formatter_class=argparse.RawDescriptionHelpFormatter)
-    parser.add_argument("torrent", metavar="FILE.torrent")
-    parser.add_argument("out", metavar="OUT", nargs="?")
-    parser.add_argument("peers", metavar="HOST:PORT", nargs="*", type=_told(addresses.parse), help="peers beside those of the trackers")
-    what = parser.add_argument_group("what is downloaded")
-    what.add_argument("--list", action="store_true", dest="lists", help="list the files with their numbers, and end")
-    what.add_argument("--only", type=_numbers, metavar="1,3-5", help="download these files alone")
-    level = "file N has level L: 0 is not downloaded, 7 comes first, 4 is usual"
-    what.add_argument("--level", type=_level, action="append", default=[], metavar="N=L", help=level)
-    what.add_argument("--in-order", action="store_true", help="from the front to the end, and not the rarest first")
-    what.add_argument("--replace", action="store_true", dest="replaces", help="overwrite files that have another content")
-    swarm = parser.add_argument_group("the swarm")
-    swarm.add_argument("--port", type=_port, help="listen at this port; without it at 6881 to 6889, or at any")
-    swarm.add_argument("--bind", default="", metavar="ADDRESS", help="use this address of ours alone")
-    swarm.add_argument("--no-listen", action="store_false", dest="listens", help="take no connections")
-    swarm.add_argument("--peers", type=_peers, dest="most_peers", default=50, metavar="N", help="connections at most, 50 by default")
-    swarm.add_argument("--slots", type=_count, default=4, metavar="N", help="peers that are uploaded to at a time, 4 by default; 0 uploads nothing")
-    swarm.add_argument("--up", type=_count, dest="up_limit", metavar="KB", help="upload so many kilobytes a second at most")
-    swarm.add_argument("--no-tracker", action="store_false", dest="asks_trackers", help="ask no tracker")
-    swarm.add_argument("--askers", type=_peers, default=2, metavar="N", help="of so many peers a block is asked at most in endgame, 2 by default")
-    ends = parser.add_argument_group("when it ends")
-    ends.add_argument("--seed", type=_amount, dest="seed_ratio", metavar="RATIO", help="then upload until so many times the content is given")
-    ends.add_argument("--seed-minutes", type=_amount, metavar="N", help="then upload for so many minutes")
-    ends.add_argument("--give-up", type=_amount, metavar="SECONDS", help="end when nothing has come for so long")
-    shown = parser.add_argument_group("what is shown")
-    shown.add_argument("--watch", action="store_true", dest="watches", help="draw the pieces and the peers in the terminal")
-    shown.add_argument("--picture", metavar="FILE.svg", help="draw the download: time across, pieces up, a colour for each peer")
-    shown.add_argument("--by-rarity", action="store_true", help="in the picture the pieces at the bottom that fewest peers show")
-    serve = "give the files to players on this machine by HTTP while they come, until it is interrupted"
-    shown.add_argument("--serve", type=_port, metavar="PORT", help=serve)
-    shown.add_argument("--json", action="store_true", dest="as_json", help="print the figures at the end for programs")
-    shown.add_argument("--meter", action="store_true", dest="meters", help="measure the time in the library, too")
-    shown.add_argument("--quiet", action="store_true", help="no progress line")
-    return parser
-
-
-def read(words: list[str]) -> Options:
-    """The options of these words. A wrong one ends the program with status 2."""
-    parser = _parser()
-    given = vars(parser.parse_args(words))
-    given["levels"] = dict(given.pop("level"))
-    if given["out"] is None:
-        if not given["lists"]:
-            parser.error("OUT is missing")
-        given["out"] = os.curdir
-    return Options(**given)
+    def of(self, torrent: str) -> Options:
+        """The same choices for another torrent."""
+        return replace(self, torrent=torrent, more=())

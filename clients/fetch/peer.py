@@ -10,10 +10,13 @@ from piecepick import DepthByRate
 
 from .blame import Address
 from .deadlines import Pace
+from .exchange import Exchange
+from .extended import Hello
 from .rate import Rate
 from .wire import Inbound, Message, spell
 
 FIRST_DEPTH = 64
+FIRST_DEPTH_WEB = 256  # of web servers, whose ranges are to be long
 FIRST_DEPTH_READING = 8  # while somebody reads, since a slow peer would keep what the reader waits for
 MOST_DEPTH = 500
 MOST_LATE = 2000  # requests that are remembered after they were taken back, since their blocks may come
@@ -40,7 +43,11 @@ class Peer:
     is_connected: bool = False
     is_fast: bool = False
     is_extended: bool = False
-    dont_have: int = 0  # its number for the message that a piece is lost; 0 where it takes none
+    has_dht: bool = False
+    hello: Hello = field(default_factory=Hello)  # what it said by the extension protocol
+    exchange: Exchange = field(default_factory=Exchange)
+    is_web: bool = False  # a web server, by a peer of this process
+    is_alone: bool = False  # it gets whole pieces, so that its ranges are long
     unsent: bytearray = field(default_factory=bytearray)
     events: int = 0  # of the selector
 
@@ -80,6 +87,15 @@ class Peer:
         return self.worker != NO_WORKER
 
     @property
+    def listens_at(self) -> Address | None:
+        """Where others may connect to it; None where that isn't known. Who came to us says its port, or doesn't."""
+        if self.is_web:
+            return None
+        if not self.is_incoming:
+            return self.address
+        return (self.address[0], self.hello.port) if self.hello.port else None
+
+    @property
     def depth(self) -> int:
         """How many blocks may be asked of the peer at a time."""
         return self.by_rate.depth
@@ -92,9 +108,9 @@ class Peer:
             return head[1:-1].decode("ascii")
         return head.split(b"-")[0].decode("ascii") if head[:1].isalpha() and head.replace(b"-", b"").isalnum() else ""
 
-    def begin_shallow(self) -> None:
-        """The peer joins while somebody reads."""
-        self.by_rate = DepthByRate(milliseconds(self.began), depth=FIRST_DEPTH_READING, deepest=MOST_DEPTH)
+    def begin_with(self, depth: int) -> None:
+        """The peer has another depth at first than most."""
+        self.by_rate = DepthByRate(milliseconds(self.began), depth=depth, deepest=MOST_DEPTH)
 
     def say(self, message: Message, *numbers: int) -> None:
         """Puts a message behind what is to be sent."""

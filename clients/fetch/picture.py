@@ -6,6 +6,7 @@ from collections import Counter
 from collections.abc import Iterable
 from html import escape
 
+from .ticks import ticks
 from .trace import Trace
 
 COLOURS = (
@@ -15,7 +16,12 @@ ENDGAME = "#d62728"
 LEFT, TOP, WIDTH, HEIGHT = 90, 64, 800, 480
 STRIP = 14  # width of the strip of how many peers show a piece
 COLUMNS, MOST_ROWS = 400, 240
-LEGEND_LINE = 18
+LEGEND_LINE, LEGEND_TOP = 18, 62
+MEANINGS = (
+    "A mark is a block, when it came, in the colour of the peer that sent it. A complete row is tinted, in the colour of who brought most of it.",
+    "Marks above each other came together: a peer with a limited rate sends in bursts.",
+    "The strip at the left says how many peers showed a piece when it was first requested. A red dot is a block asked of a second peer.",
+)
 
 
 class Grid:
@@ -130,32 +136,39 @@ def _endgame(grid: Grid) -> list[str]:
 
 
 def _axes(grid: Grid, by_rarity: bool) -> list[str]:
-    """A frame, the times below and the pieces at the left."""
-    trace, bottom = grid.trace, TOP + HEIGHT
+    """A frame, the times below and the pieces at the left, both at round numbers and with their names."""
+    trace, bottom, middle = grid.trace, TOP + HEIGHT, TOP + HEIGHT / 2
     drawn = [f'<rect x="{LEFT}" y="{TOP}" width="{WIDTH}" height="{HEIGHT}" fill="none" stroke="#888"/>']
-    for part in range(5):
-        told = f"{trace.end * part / 4:.3g} {trace.unit}" if trace.unit == "s" else f"{trace.end * part / 4:.0f}"
-        drawn.append(_text(LEFT + WIDTH * part / 4, bottom + 16, told, "middle"))
-    for part in range(1 if by_rarity else 5):
-        drawn.append(_text(LEFT - STRIP - 8, bottom - HEIGHT * part / 4 + 4, "rarest" if by_rarity else f"{trace.pieces * part // 4}", "end"))
+    for at in ticks(trace.end, is_whole=trace.unit != "s") if trace.end else [0.0]:
+        x = LEFT + (WIDTH * at / trace.end if trace.end else 0)
+        drawn.append(f'<line x1="{short(x)}" y1="{bottom}" x2="{short(x)}" y2="{bottom + 4}" stroke="#888"/>')
+        drawn.append(_text(x, bottom + 16, f"{at:g}", "middle"))
+    drawn.append(_text(LEFT + WIDTH / 2, bottom + 34, "seconds" if trace.unit == "s" else trace.unit or "calls", "middle", ' fill="#555"'))
+    for piece in [] if by_rarity else ticks(trace.pieces, is_whole=True):
+        drawn.append(_text(LEFT - STRIP - 8, bottom - HEIGHT * piece / trace.pieces + 4, f"{piece:g}", "end"))
+    name, turn = ("pieces, the rarest below" if by_rarity else "piece"), f' transform="rotate(-90 20 {short(middle)})" fill="#555"'
+    drawn.append(_text(20, middle, name, "middle", turn))
     return drawn
 
 
 def _legend(trace: Trace) -> list[str]:
-    """Each peer with its colour and its blocks."""
+    """Each peer with its colour and its blocks, and what the other marks mean."""
     counts = Counter(trace.came_peer)
     drawn = []
     for number, name in enumerate(trace.names):
-        x, y = LEFT + number % 2 * WIDTH / 2, TOP + HEIGHT + 44 + number // 2 * LEGEND_LINE
+        x, y = LEFT + number % 2 * WIDTH / 2, TOP + HEIGHT + LEGEND_TOP + number // 2 * LEGEND_LINE
         drawn.append(f'<rect x="{short(x)}" y="{short(y - 10)}" width="12" height="12" fill="{colour_of(number)}"/>')
         drawn.append(_text(x + 18, y, f"{name}: {counts[number]} blocks"))
+    y = TOP + HEIGHT + LEGEND_TOP + (len(trace.names) + 1) // 2 * LEGEND_LINE + 4
+    for number, line in enumerate(MEANINGS):
+        drawn.append(_text(LEFT, y + number * LEGEND_LINE, line, more=' fill="#555"'))
     return drawn
 
 
 def draw(trace: Trace, title: str, by_rarity: bool = False) -> str:
     """The drawing. `by_rarity` puts the pieces that fewest peers show at the bottom, and not the first ones."""
     grid = Grid(trace, by_rarity)
-    height = TOP + HEIGHT + 60 + (len(trace.names) + 1) // 2 * LEGEND_LINE
+    height = TOP + HEIGHT + LEGEND_TOP + ((len(trace.names) + 1) // 2 + len(MEANINGS)) * LEGEND_LINE
     told = f"{trace.pieces} pieces, {len(trace.came_at)} of {trace.blocks} blocks"
     if trace.again_at:
         told += f", {len(trace.again_at)} requests in endgame"

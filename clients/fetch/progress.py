@@ -21,6 +21,8 @@ class State:
     down: float
     up: float
     peers: int
+    pieces_done: int = 0
+    pieces: int = 0
     note: str = ""
 
 
@@ -43,7 +45,8 @@ def duration(seconds: float) -> str:
 def line(state: State) -> str:
     """The progress line."""
     share = 100.0 * state.done / state.wanted if state.wanted else 100.0
-    parts = [f"{share:5.1f}% of {size(state.wanted)}", f"{size(state.down)}/s down"]
+    pieces = f"{state.pieces_done} of {state.pieces} piece{'' if state.pieces == 1 else 's'}"
+    parts = [f"{share:5.1f}% of {size(state.wanted)}", pieces, f"{size(state.down)}/s down"]
     if state.up:
         parts.append(f"{size(state.up)}/s up")
     parts.append(f"{state.peers} peer{'' if state.peers == 1 else 's'}")
@@ -69,17 +72,22 @@ class Progress:
 
     def show(self, state: State, now: float) -> None:
         """Writes the line."""
+        self._write(line(state), now)
+
+    def _write(self, text: str, now: float) -> None:
         self._shown = now
         self._is_open = True
-        print(f"\r{line(state)}\x1b[K", end="", file=self.stream, flush=True)
+        print(f"\r{text}\x1b[K", end="", file=self.stream, flush=True)
+
+    def tell(self, text: str, is_last: bool = False) -> None:
+        """Writes another line in its place, where it is time for it or nothing else follows."""
+        now = time.monotonic()
+        if self.shows and (now - self._shown >= EACH or is_last):
+            self._write(text, now)
 
     def check(self, done: int, pieces: int) -> None:
-        """The same for pieces that are checked at the start."""
-        now = time.monotonic()
-        if self.shows and (now - self._shown >= EACH or done == pieces):
-            self._shown = now
-            self._is_open = True
-            print(f"\rchecking what is there: {done} of {pieces} pieces\x1b[K", end="", file=self.stream, flush=True)
+        """How many pieces were checked at the start."""
+        self.tell(f"checking what is there: {done} of {pieces} pieces", is_last=done == pieces)
 
     def say(self, text: str) -> None:
         """Writes a line of its own."""
@@ -91,3 +99,7 @@ class Progress:
         if self._is_open:
             self._is_open = False
             print(file=self.stream, flush=True)
+
+    def close(self) -> None:
+        """The same."""
+        self.end()

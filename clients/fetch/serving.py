@@ -109,12 +109,19 @@ class Urgent:
         comes_or_goes = bool(ahead) != bool(before)  # the first reader, or the last one
         if comes_or_goes:
             self._set_order(bool(ahead))
-            self.session.suspects.set_reading(bool(ahead))
+            self.session.set_reading(bool(ahead))
         if ahead is not before:
             self._set_levels(ahead)
         if comes_or_goes or (ahead and self.session.now - self._looked >= LOOK):
             self._looked = self.session.now
             self._set_reaches()
+
+    def set_own_levels(self, levels: bytes) -> None:
+        """The pieces have other levels of their own, which the picker was told; those before readers are raised again."""
+        self.levels = levels
+        self._told = bits_of((piece for piece, level in enumerate(levels) if level >= URGENT), len(self.session.content.had))
+        for piece in self.raised:
+            self.session.picker.set_level(piece, self._level(piece))
 
     def _set_order(self, has_reader: bool) -> None:
         """The newest of these two calls holds."""

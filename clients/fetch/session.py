@@ -9,14 +9,15 @@ from typing import Protocol
 
 from piecepick import Answer, InputFault, Kind, PickRule, Reason
 
+from .blame import Address
 from .content import Content, Verdict
 from .deadlines import Line
-from .extended import DONT_HAVE, HELLO, read_dont_have, read_hello, spell_dont_have, spell_hello
+from .extensions import Extensions
 from .layout import BLOCK
-from .peer import ALL_LEVELS, NO_WORKER, Peer, milliseconds
+from .peer import ALL_LEVELS, FIRST_DEPTH_READING, FIRST_DEPTH_WEB, NO_WORKER, Peer, milliseconds
 from .suspects import Suspects
 from .uploads import Uploads
-from .wire import Message, WireFault, block_of, extended_of, numbers_of, spell, spell_bitfield
+from .wire import Message, WireFault, block_of, numbers_of, port_of, spell, spell_bitfield, spell_port
 
 SILENCE = 15.0  # seconds with no block, after which a silent peer's oldest requests are late
 SLOWEST = 60.0  # seconds after which a request is late though other blocks come, and after as many more it is taken back
@@ -57,9 +58,12 @@ class Figures:
 class Session:
     """All joined peers of one download."""
 
-    def __init__(self, content: Content, uploads: Uploads, record: Record | None = None) -> None:
+    def __init__(self, content: Content, uploads: Uploads, record: Record | None = None, extensions: Extensions | None = None) -> None:
         self.content, self.picker, self.layout = content, content.picker, content.layout
         self.uploads, self.record = uploads, record
+        self.extensions = extensions or Extensions()
+        self.dht_port = 0  # that of our own node, where peers are told of it
+        self.on_node: Callable[[Address], None] = lambda address: None
         self.suspects = Suspects(self.picker)
         self.peers: dict[int, Peer] = {}  # by worker
         self.asks: dict[tuple[int, int], int] = {}  # of how many peers each block is asked now
@@ -70,7 +74,7 @@ class Session:
             Message.NOT_INTERESTED: self._not_interested, Message.HAVE: self._have, Message.BITFIELD: self._bitfield,
             Message.REQUEST: self._request, Message.PIECE: self._piece, Message.CANCEL: self._cancel, Message.HAVE_ALL: self._have_all,
             Message.HAVE_NONE: self._have_none, Message.REJECT: self._reject, Message.ALLOWED_FAST: self._allowed_fast,
-            Message.EXTENDED: self._extended,
+            Message.EXTENDED: self._extended, Message.PORT: self._port,
         }  # fmt: skip
 
     # Peers come and go.
@@ -82,8 +86,8 @@ class Session:
         self.peers[worker] = peer
         self.content.owners[worker] = peer.address
         self.picker.join(worker)
-        if self.suspects.reads:
-            peer.begin_shallow()
+        if self.suspects.reads or peer.is_web:
+            peer.begin_with(FIRST_DEPTH_READING if self.suspects.reads else FIRST_DEPTH_WEB)
             self.picker.depth(worker, peer.depth)
         if peer.is_fast and self.content.had_count == self.layout.pieces:
             peer.say(Message.HAVE_ALL)
@@ -92,7 +96,9 @@ class Session:
         elif self.content.had_count:
             peer.unsent += spell_bitfield(self.content.had)
         if peer.is_extended:
-            peer.unsent += spell_hello()
+            self.extensions.greet(peer)
+        if peer.has_dht and self.dht_port:
+            peer.unsent += spell_port(self.dht_port)
 
     def part(self, peer: Peer) -> None:
         """The connection is gone."""
@@ -233,11 +239,13 @@ class Session:
         numbers_of(Message.ALLOWED_FAST, payload)
 
     def _extended(self, peer: Peer, payload: memoryview) -> None:
-        number, rest = extended_of(payload)
-        if number == HELLO:
-            peer.dont_have = read_hello(rest)
-        elif number == DONT_HAVE:
-            self._lack(peer, read_dont_have(rest))
+        piece = self.extensions.hear(peer, payload, self.now)
+        if piece is not None:
+            self._lack(peer, piece)
+
+    def _port(self, peer: Peer, payload: memoryview) -> None:
+        """A node of the DHT is at the peer's host."""
+        self.on_node((peer.address[0], port_of(payload)))
 
     def _lack(self, peer: Peer, piece: int) -> None:
         """The peer has the piece no more, so what was asked of it there is free for others."""
@@ -268,8 +276,23 @@ class Session:
         peer.pace.fill(answer.kind is Kind.PIPE_FULL, self.now)
         if answer.kind is Kind.NOTHING_LEFT:
             self._lose_interest(peer)
-        elif answer.kind is Kind.IDLE and not peer.asked and self.suspects.tell_off(peer):
+        elif answer.kind is Kind.IDLE and not peer.asked and (self.suspects.tell_off(peer) or self.set_alone(peer, False)):
             self.ask(peer)  # pieces that others have begun
+
+    def set_alone(self, peer: Peer, is_alone: bool) -> bool:
+        """A peer begins pieces of its own from now on, or works with the others again; whether that is new."""
+        if peer.is_alone == is_alone:
+            return False
+        peer.is_alone = is_alone
+        self.picker.alone(peer.worker, is_alone)
+        return True
+
+    def set_reading(self, reads: bool) -> None:
+        """While somebody reads nobody works alone, be it a suspect or a web server."""
+        self.suspects.set_reading(reads)
+        for peer in self.peers.values():
+            if peer.is_web:
+                self.set_alone(peer, not reads)
 
     def _send_request(self, peer: Peer, block: tuple[int, int], answer: Answer) -> None:
         others = self.asks.get(block, 0)
@@ -343,6 +366,7 @@ class Session:
         if late:
             peer.by_rate.timed_out()
             self.suspects.tell_off(peer)
+            self.set_alone(peer, False)
             self._rest(peer)
 
     def _rest(self, peer: Peer) -> None:
@@ -393,19 +417,14 @@ class Session:
                     peer.say(Message.HAVE, verdict.piece)
         lost, self.content.lost = self.content.lost, []
         for piece in lost:
-            self._tell_lost(piece)
+            for peer in self.peers.values():
+                self.extensions.tell_lost(peer, piece)
         if lost or any(not verdict.is_had for verdict in verdicts):
             self.reconsider()
         elif verdicts and self.picker.has_wanted:
             for peer in self.peers.values():
                 self._lose_interest(peer)
         return verdicts
-
-    def _tell_lost(self, piece: int) -> None:
-        """We have the piece no more. Who doesn't take that message is rejected when it asks."""
-        for peer in self.peers.values():
-            if peer.dont_have:
-                peer.unsent += spell_dont_have(peer.dont_have, piece)
 
     def reconsider(self) -> None:
         """More may be wanted than before: tells the peers that have something of it."""

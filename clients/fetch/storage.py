@@ -12,6 +12,7 @@ from collections.abc import Iterator
 from contextlib import contextmanager
 
 from .layout import BLOCK, File, Layout
+from .place import PART_SUFFIX
 
 MOST_OPEN = 64  # files that are held open for writing
 CHUNK = 1 << 18  # bytes that are read at a time to be hashed
@@ -30,7 +31,7 @@ def _fill(handle: int, inside: int, room: memoryview) -> None:
         room, inside = room[got:], inside + got
 
 
-def _told(path: str, error: OSError) -> StorageFault:
+def told(path: str, error: OSError) -> StorageFault:
     """What to tell the user of an error of the system."""
     if error.errno in (errno.ENOSPC, errno.EDQUOT):
         return StorageFault(f"the disk is full: {path}")
@@ -57,9 +58,9 @@ class Storage:
     def _suffix(self) -> str:
         """What stands behind the name of a file that isn't whole: `.part`, or more where another file has that name."""
         names = set(self.whole_paths.values())
-        suffix = ".part"
+        suffix = PART_SUFFIX
         while any(name + suffix in names for name in names):
-            suffix += ".part"
+            suffix += PART_SUFFIX
         return suffix
 
     def _find(self, file: File) -> None:
@@ -90,7 +91,7 @@ class Storage:
                 if size < file.length:
                     os.posix_fallocate(handle, 0, file.length)
             except OSError as error:
-                raise _told(path, error) from error
+                raise told(path, error) from error
             if file.length == 0:
                 self.finish(file)
 
@@ -116,7 +117,7 @@ class Storage:
                 while written < length:
                     written += os.pwrite(handle, data[written:length], inside + written)
             except OSError as error:
-                raise _told(self.path_of(file), error) from error
+                raise told(self.path_of(file), error) from error
             data = data[length:]
 
     def _reading(self, file: File) -> int:
@@ -200,7 +201,7 @@ class Storage:
             except OSError as error:
                 if error.errno == errno.ENXIO:
                     return False
-                raise _told(self.path_of(file), error) from error
+                raise told(self.path_of(file), error) from error
             finally:
                 os.close(handle)
         return True
@@ -210,7 +211,7 @@ class Storage:
             try:
                 os.replace(self._paths[file.number], path)
             except OSError as error:
-                raise _told(path, error) from error
+                raise told(path, error) from error
             self._paths[file.number] = path
 
     def finish(self, file: File) -> None:

@@ -4,6 +4,7 @@ from __future__ import annotations
 
 import contextlib
 import errno
+import os
 import selectors
 import socket
 import time
@@ -14,6 +15,9 @@ from .addresses import Addresses
 from .blame import Address
 from .choking import ROUND, Candidate, Choker
 from .content import Verdict
+from .limits import Limit
+from .lingering import linger
+from .partings import Partings
 from .peer import Peer
 from .session import Session
 from .wire import KEEPALIVE, Handshake, Inbound, WireFault
@@ -22,12 +26,21 @@ HANDSHAKE_SECONDS = 10.0  # until the handshakes have to be exchanged
 QUIET_SECONDS = 180.0  # with no byte from a peer, until it is let go
 STUCK_SECONDS = 120.0  # with no byte taken by a peer
 KEEPALIVE_SECONDS = 100.0
-LINGER_SECONDS = 1.0  # at the end, for peers to read what was sent to them
 MOST_CONNECTING = 10
 MOST_BACKLOG = 1 << 20  # bytes unsent, above which nothing more is read from a peer
+HELD_SECONDS = 20.0  # with no word on time-outs, after the limit was reached
 READ = 1 << 18  # bytes that are read at a time
 TICK = 0.2  # seconds
 SLOW_TICK = 1.0
+
+
+CLOSED = "closed the connection"
+CLOSED_EARLY = "closed the connection before its handshake: it may have another torrent, no place, or want encryption"
+
+
+def said_by(error: OSError) -> str:
+    """An error of a connection, for the user."""
+    return error.strerror or str(error)
 
 
 @dataclass(frozen=True)
@@ -43,7 +56,11 @@ class Limits:
 class Swarm:
     """The connections of one download."""
 
-    def __init__(self, session: Session, addresses: Addresses, limits: Limits, listener: socket.socket | None) -> None:
+    def __init__(
+        self, session: Session, addresses: Addresses, limits: Limits, listener: socket.socket | None, down: Limit | None = None
+    ) -> None:
+        self.down = down or Limit(None)
+        self._held = -HELD_SECONDS  # when nothing was read since the limit was reached
         self.session, self.addresses, self.limits, self.listener = session, addresses, limits, listener
         self.content = session.content
         self.choker = Choker(limits.slots)
@@ -51,6 +68,7 @@ class Swarm:
         self.peers: set[Peer] = set()
         self.free_workers = list(range(self.content.disk))
         self.is_stopping = self.is_closing = False
+        self.partings = Partings()
         self.lost = self.banned = self.connections = 0
         self.on_verdict: Callable[[Verdict], None] = lambda verdict: None
         self._woken, self._waker = socket.socketpair()
@@ -92,6 +110,7 @@ class Swarm:
             error = fault.errno or errno.EINVAL
         if error not in (0, errno.EINPROGRESS):
             connection.close()
+            self.partings.note(address, os.strerror(error))
             self.addresses.failed(address, self.session.now)
             return
         self._add(connection, address, is_incoming=False)
@@ -110,21 +129,33 @@ class Swarm:
             return
         self._add(connection, where, is_incoming=True).is_connected = True
 
+    def attach(self, connection: socket.socket, address: Address) -> Peer:
+        """A peer of this process, which stands for a web server."""
+        connection.setblocking(False)
+        peer = self._add(connection, address, is_incoming=False)
+        peer.is_web = True
+        return peer
+
     def _add(self, connection: socket.socket, address: Address, is_incoming: bool) -> Peer:
         peer = Peer(connection, address, is_incoming, Inbound(self.session.layout.pieces), self.session.now)
         self.peers.add(peer)
         if not is_incoming:
-            peer.unsent += Handshake(self.content.infohash, self.limits.peer_id).spell()
+            peer.unsent += self._handshake()
         peer.events = selectors.EVENT_READ if is_incoming else selectors.EVENT_READ | selectors.EVENT_WRITE
         with contextlib.suppress(OSError):
             connection.setsockopt(socket.IPPROTO_TCP, socket.TCP_NODELAY, 1)
         self.selector.register(connection, peer.events, peer)
         return peer
 
-    def drop(self, peer: Peer) -> None:
-        """Ends a connection."""
+    def _handshake(self) -> bytes:
+        """Who we are."""
+        return Handshake(self.content.infohash, self.limits.peer_id, has_dht=self.session.dht_port > 0).spell()
+
+    def drop(self, peer: Peer, why: str = "") -> None:
+        """Ends a connection. `why` is for the user, and nothing where the program ends."""
         if peer not in self.peers:
             return
+        self.partings.note(peer.address, why, peer.down.total > 0)
         self.peers.discard(peer)
         self.selector.unregister(peer.connection)
         peer.connection.close()
@@ -143,7 +174,7 @@ class Swarm:
         self.banned += 1
         self.addresses.ban(address)
         for peer in [peer for peer in self.peers if self.addresses.is_banned(peer.address)]:
-            self.drop(peer)
+            self.drop(peer, "sent wrong data, and is banned")
 
     def _greet(self, peer: Peer, handshake: Handshake) -> None:
         """The handshake came: the peer joins. Raises WireFault where it isn't welcome."""
@@ -160,10 +191,14 @@ class Swarm:
         if worker is None:
             raise WireFault("there is no place for another peer")
         if peer.is_incoming:
-            peer.unsent += Handshake(self.content.infohash, self.limits.peer_id).spell()
-        peer.peer_id, peer.is_fast, peer.is_extended = handshake.peer_id, handshake.is_fast, handshake.is_extended
+            peer.unsent += self._handshake()
+        peer.peer_id, peer.is_fast, peer.is_extended, peer.has_dht = (
+            handshake.peer_id, handshake.is_fast, handshake.is_extended, handshake.has_dht
+        )  # fmt: skip
         self.connections += 1
         self.session.join(peer, worker)
+        if peer.is_web and not self.session.suspects.reads:
+            self.session.set_alone(peer, True)
 
     def _free_worker(self) -> int | None:
         """A worker's number that names the sender of no block of a begun piece, so that nobody is taken for another peer."""
@@ -176,17 +211,20 @@ class Swarm:
 
     def _receive(self, peer: Peer) -> None:
         """Reads what came. A peer that breaks the protocol is let go."""
+        if not self.down.allows(self.session.now):
+            return
         try:
-            data = peer.connection.recv(READ)
+            data = peer.connection.recv(self.down.room(READ))
         except (BlockingIOError, InterruptedError):
             return
-        except OSError:
-            self.drop(peer)
+        except OSError as error:
+            self.drop(peer, said_by(error))
             return
         if not data:
-            self.drop(peer)
+            self.drop(peer, CLOSED if peer.is_joined else CLOSED_EARLY)
             return
         peer.is_connected = True
+        self.down.take(len(data))
         try:
             if not peer.is_joined:
                 handshake = peer.inbound.handshake(data)
@@ -195,30 +233,30 @@ class Swarm:
                 self._greet(peer, handshake)
                 data = b""
             self.session.receive(peer, data)
-        except WireFault:
-            self.drop(peer)
+        except WireFault as fault:
+            self.drop(peer, str(fault))
 
     def _send(self, peer: Peer) -> None:
         """Sends what can be sent."""
         if not peer.is_connected:
-            if peer.connection.getsockopt(socket.SOL_SOCKET, socket.SO_ERROR):
-                self.drop(peer)
+            if error := peer.connection.getsockopt(socket.SOL_SOCKET, socket.SO_ERROR):
+                self.drop(peer, os.strerror(error))
                 return
             peer.is_connected = True
         try:
             sent = peer.connection.send(peer.unsent)
         except (BlockingIOError, InterruptedError):
             return
-        except OSError:
-            self.drop(peer)
+        except OSError as fault:
+            self.drop(peer, said_by(fault))
             return
         del peer.unsent[:sent]
         peer.said = self.session.now
 
-    def _watch(self, peer: Peer) -> None:
+    def _watch(self, peer: Peer, may_read: bool) -> None:
         """Tells the selector what is awaited of a peer."""
         events = selectors.EVENT_WRITE if peer.unsent or not peer.is_connected else 0
-        if len(peer.unsent) < MOST_BACKLOG:
+        if len(peer.unsent) < MOST_BACKLOG and may_read:
             events |= selectors.EVENT_READ
         if events != peer.events:
             peer.events = events
@@ -243,10 +281,13 @@ class Swarm:
         self.session.now = time.monotonic()
         self._settle()
         self.session.ask_idle()
+        may_read = self.down.allows(self.session.now)
+        if not may_read:
+            self._held = self.session.now
         for peer in self.peers:
             if peer.wants:
                 self.session.uploads.serve(peer, self.session.now)
-            self._watch(peer)
+            self._watch(peer, may_read)
         if self.session.now - self._ticked >= TICK:
             self._tick()
 
@@ -268,6 +309,7 @@ class Swarm:
             self._slowly_ticked = now
             for peer in list(self.peers):
                 self._look_after(peer)
+            self.session.extensions.exchange_peers(self.session.peers.values(), now)
         if now - self._choked >= ROUND or self._has_new_interest():
             self._choked = now
             self._choke()
@@ -277,19 +319,29 @@ class Swarm:
         now = self.session.now
         if not peer.is_joined:
             if now - peer.began > HANDSHAKE_SECONDS:
-                self.drop(peer)
+                self.drop(peer, "no handshake came" if peer.is_connected else "doesn't answer")
             return
-        is_stuck = len(peer.unsent) > 0 and now - peer.said > STUCK_SECONDS
-        if is_stuck or now - peer.heard > QUIET_SECONDS or not self.session.time_out(peer):
-            self.drop(peer)
+        if why := self._is_dead(peer):
+            self.drop(peer, why)
             return
         if self._is_useless(peer):
-            self.drop(peer)
+            self.drop(peer, "has all, as we have")
             self.addresses.postpone(peer.address, now)
             return
         self.session.follow_rate(peer)
         if now - peer.said > KEEPALIVE_SECONDS and not peer.unsent:
             peer.unsent += KEEPALIVE
+
+    def _is_dead(self, peer: Peer) -> str:
+        """Why a peer isn't worth to be kept; empty where it is."""
+        now = self.session.now
+        if peer.unsent and now - peer.said > STUCK_SECONDS:
+            return "takes nothing"
+        if now - peer.heard > QUIET_SECONDS:
+            return "is silent"
+        if now - self._held < HELD_SECONDS:
+            return ""  # what it sent may wait for us
+        return "" if self.session.time_out(peer) else "doesn't bring what it is asked for"
 
     def _is_useless(self, peer: Peer) -> bool:
         """Whether neither side can ever have something for the other: both have all."""
@@ -314,37 +366,13 @@ class Swarm:
             else:
                 self.session.uploads.choke(peer)
 
-    def _linger(self) -> None:
-        """Lets the peers read what was sent last: a connection that is closed with something unread in it takes that away."""
-        for other in filter(None, (self.listener, self._woken)):
-            self.selector.unregister(other)
-        for peer in list(self.peers):
-            try:
-                peer.connection.shutdown(socket.SHUT_WR)
-            except OSError:
-                self.drop(peer)
-        end = time.monotonic() + LINGER_SECONDS
-        while self.peers and (left := end - time.monotonic()) > 0:
-            for key, _ in self.selector.select(left):
-                if not self._discard(key.data):
-                    self.drop(key.data)
-
-    def _discard(self, peer: Peer) -> bool:
-        """Reads what came and forgets it; whether the connection lasts."""
-        peer.events = selectors.EVENT_READ
-        self.selector.modify(peer.connection, peer.events, peer)
-        try:
-            return bool(peer.connection.recv(READ))
-        except (BlockingIOError, InterruptedError):
-            return True
-        except OSError:
-            return False
-
     def close(self) -> None:
         """Ends all connections."""
         self.is_closing = True
         if self.session.uploads.total:
-            self._linger()
+            for other in filter(None, (self.listener, self._woken)):
+                self.selector.unregister(other)
+            linger(self.selector, self.peers, self.drop)
         for peer in list(self.peers):
             self.drop(peer)
         self.selector.close()

@@ -2,53 +2,17 @@
 
 from __future__ import annotations
 
-import http.client
 import ipaddress
-import urllib.error
-import urllib.request
-from functools import partial
 from urllib.parse import urlencode
 
 from bencode import BencodeFault, Value, bdecode
 
+from . import web
 from .blame import Address
 from .tracker import Announce, Event, Told, TrackerFault, bounded, compact_peers
 
 LARGEST = 1 << 20  # bytes of an answer
 TIMEOUT = 15.0
-
-
-class _Plain(urllib.request.HTTPHandler):
-    """HTTP from one of our own addresses."""
-
-    def __init__(self, source: str) -> None:
-        super().__init__()
-        self.source = (source, 0) if source else None
-
-    def http_open(self, request: urllib.request.Request) -> http.client.HTTPResponse:
-        return self.do_open(partial(http.client.HTTPConnection, source_address=self.source), request)
-
-
-class _Secured(urllib.request.HTTPSHandler):
-    """HTTPS from one of our own addresses."""
-
-    def __init__(self, source: str) -> None:
-        super().__init__()
-        self.source = (source, 0) if source else None
-
-    def https_open(self, request: urllib.request.Request) -> http.client.HTTPResponse:
-        return self.do_open(partial(http.client.HTTPSConnection, source_address=self.source), request)
-
-
-def _opener(source: str) -> urllib.request.OpenerDirector:
-    """Opens addresses of HTTP alone, so that no metainfo file leads us to files of this machine."""
-    opener = urllib.request.OpenerDirector()
-    for handler in (_Plain(source), _Secured(source), urllib.request.HTTPRedirectHandler(), urllib.request.UnknownHandler()):
-        opener.add_handler(handler)
-    opener.add_handler(urllib.request.HTTPErrorProcessor())
-    opener.add_handler(urllib.request.HTTPDefaultErrorHandler())
-    opener.addheaders = [("User-Agent", "piecepick-fetch")]
-    return opener
 
 
 def query(request: Announce, tracker_id: bytes = b"") -> str:
@@ -68,13 +32,9 @@ def announce(url: str, request: Announce, timeout: float = TIMEOUT, tracker_id: 
     """Tells the tracker, and gives its answer. Raises TrackerFault."""
     address = url + ("&" if "?" in url else "?") + query(request, tracker_id)
     try:
-        with _opener(source).open(address, timeout=timeout) as reply:
-            data = reply.read(LARGEST)
-    except urllib.error.HTTPError as error:
-        with error:
-            raise TrackerFault(f"the tracker answers with status {error.code}") from error
-    except (OSError, http.client.HTTPException, ValueError) as error:
-        raise TrackerFault(f"the tracker doesn't answer: {error}") from error
+        data = web.get(address, LARGEST, timeout, source)
+    except web.WebFault as fault:
+        raise TrackerFault(f"the tracker doesn't answer: {fault}") from fault
     return read(data)
 
 

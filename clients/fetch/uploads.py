@@ -3,6 +3,7 @@
 from __future__ import annotations
 
 from .content import Content
+from .limits import Limit
 from .peer import Peer
 from .wire import Message, WireFault, spell_block
 
@@ -11,33 +12,12 @@ MOST_REQUESTS = 1 << 14  # that wait at a peer: rtorrent has thousands where it 
 MOST_UNSENT = 1 << 18  # bytes that wait to be sent, before no further block is read from the disk
 
 
-class Limit:
-    """So many bytes a second at most; None is no limit. What isn't used within a second is lost."""
-
-    def __init__(self, rate: int | None) -> None:
-        self.rate = rate
-        self._left = 0.0
-        self._filled = 0.0
-
-    def allows(self, now: float) -> bool:
-        """Whether something may be sent now."""
-        if self.rate is None:
-            return True
-        self._left = min(self._left + self.rate * (now - self._filled), float(self.rate))
-        self._filled = now
-        return self._left > 0
-
-    def take(self, count: int) -> None:
-        """So many bytes are sent, though it may be more than are left: then it takes longer until the next ones."""
-        self._left -= count
-
-
 class Uploads:
     """Answers the requests of unchoked peers."""
 
-    def __init__(self, content: Content, rate: int | None = None) -> None:
+    def __init__(self, content: Content, limit: Limit | None = None) -> None:
         self.content = content
-        self.limit = Limit(rate)
+        self.limit = limit or Limit(None)
         self.total = 0
         self.refused = 0
 

@@ -4,10 +4,11 @@ from __future__ import annotations
 
 import shutil
 import sys
-from collections.abc import Sequence
+from collections.abc import Callable, Sequence
 from dataclasses import dataclass
 from typing import TextIO
 
+from .choosing import Chooser, Row
 from .peer import Peer
 from .progress import size
 from .session import Session
@@ -15,6 +16,7 @@ from .session import Session
 EACH = 0.25  # seconds
 COLOURS = (39, 208, 40, 141, 137, 211, 51, 185, 245, 63, 106, 136)  # of the 256 of terminals
 SHADES = " ░▒▓█"
+GREY = 240
 MOST_SHOWN = 12  # pieces that are named beside a peer
 
 
@@ -40,7 +42,7 @@ def glyph(cell: Cell) -> str:
         return SHADES[max(1, int(cell.had * (len(SHADES) - 1)))]
     if cell.shown_by == 0:
         return paint("!", 196)
-    return paint(str(cell.shown_by) if cell.shown_by < 10 else "+", 240)
+    return paint(str(cell.shown_by) if cell.shown_by < 10 else "+", GREY)
 
 
 def cells_of(session: Session, peers: Sequence[Peer], count: int) -> list[Cell]:
@@ -79,6 +81,10 @@ def line_of(peer: Peer, number: int, pieces: int, now: float) -> str:
     return paint("■ ", COLOURS[number % len(COLOURS)]) + text + numbers({piece for piece, _ in peer.asked})
 
 
+LEGEND = (
+    "█ complete  ▒ asked of the peer with that colour  3 so many peers show it  ! nobody has it",
+    "state: c chokes us, i we are interested, C we choke it, I it is interested.  f lists the files, q ends",
+)
 HEAD = "  peer                  prog  has        down          up   asked  state pieces that are asked for"
 
 
@@ -91,7 +97,8 @@ def screen(session: Session, head: str, width: int, height: int) -> list[str]:
     lines += ["".join(cells[at : at + width]) for at in range(0, len(cells), width)]
     lines += ["", HEAD[:width]]
     lines += [clip(line_of(peer, number, session.layout.pieces, session.now), width) for number, peer in enumerate(peers)]
-    return lines[: height - 1]
+    legend = [paint(line[:width], GREY) for line in LEGEND]
+    return [*lines[: max(0, height - 2 - len(legend))], "", *legend][: height - 1]
 
 
 def clip(line: str, width: int) -> str:
@@ -118,14 +125,18 @@ class Watch:
         """Whether it is time to draw again."""
         return self.shows and now - self._drawn >= EACH
 
-    def draw(self, session: Session, head: str) -> None:
-        """Draws the whole screen."""
+    def draw_soon(self) -> None:
+        """Something is to be seen at once."""
+        self._drawn = 0.0
+
+    def draw(self, session: Session, head: str, chooser: Chooser, rows: Callable[[], list[Row]]) -> None:
+        """Draws the whole screen: the pieces and the peers, or the files."""
         self._drawn = session.now
         if not self._is_open:
             self._is_open = True
             self.stream.write("\x1b[?1049h\x1b[?25l\x1b[2J")
         width, height = shutil.get_terminal_size()
-        lines = screen(session, head, width, height)
+        lines = [head[:width], *chooser.lines(rows(), width, height - 1)] if chooser.is_open else screen(session, head, width, height)
         self.stream.write("\x1b[H" + "".join(line + "\x1b[K\r\n" for line in lines) + "\x1b[J")
         self.stream.flush()
 

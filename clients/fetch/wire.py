@@ -11,6 +11,7 @@ PROTOCOL = b"\x13BitTorrent protocol"
 HANDSHAKE_LENGTH = 68
 FAST_BYTE, FAST_BIT = 7, 0x04  # of the reserved bytes (BEP 6)
 EXTENDED_BYTE, EXTENDED_BIT = 5, 0x10  # the same (BEP 10)
+DHT_BYTE, DHT_BIT = 7, 0x01  # the same (BEP 5)
 KEEPALIVE = bytes(4)
 SHORTEST_LIMIT = 1 << 15  # bytes; a block message has 16 KiB and 9
 _HEAD = struct.Struct(">IB")
@@ -29,6 +30,7 @@ class Message(IntEnum):
     REQUEST = 6
     PIECE = 7
     CANCEL = 8
+    PORT = 9
     SUGGEST = 13
     HAVE_ALL = 14
     HAVE_NONE = 15
@@ -68,6 +70,18 @@ def spell_extended(number: int, payload: bytes) -> bytes:
     return _HEAD.pack(2 + len(payload), Message.EXTENDED) + bytes([number]) + payload
 
 
+def spell_port(port: int) -> bytes:
+    """A `port` message: where our node of the DHT is."""
+    return _HEAD.pack(3, Message.PORT) + port.to_bytes(2, "big")
+
+
+def port_of(payload: memoryview) -> int:
+    """The port of a `port` message."""
+    if len(payload) != 2:
+        raise WireFault(f"a message {Message.PORT.name} has {len(payload)} bytes")
+    return int.from_bytes(payload, "big")
+
+
 def extended_of(payload: memoryview) -> tuple[int, memoryview]:
     """Our number for a message of the extension protocol, and what it has."""
     if not payload:
@@ -99,6 +113,7 @@ class Handshake:
     peer_id: bytes
     is_fast: bool = True
     is_extended: bool = True
+    has_dht: bool = False
 
     def spell(self) -> bytes:
         """Its bytes."""
@@ -107,6 +122,8 @@ class Handshake:
             reserved[FAST_BYTE] |= FAST_BIT
         if self.is_extended:
             reserved[EXTENDED_BYTE] |= EXTENDED_BIT
+        if self.has_dht:
+            reserved[DHT_BYTE] |= DHT_BIT
         return PROTOCOL + bytes(reserved) + self.infohash + self.peer_id
 
 
@@ -115,7 +132,10 @@ def read_handshake(data: bytes) -> Handshake:
     if data[: len(PROTOCOL)] != PROTOCOL:
         raise WireFault("no handshake of this protocol")
     reserved = data[20:28]
-    return Handshake(data[28:48], data[48:68], bool(reserved[FAST_BYTE] & FAST_BIT), bool(reserved[EXTENDED_BYTE] & EXTENDED_BIT))
+    return Handshake(
+        data[28:48], data[48:68], bool(reserved[FAST_BYTE] & FAST_BIT), bool(reserved[EXTENDED_BYTE] & EXTENDED_BIT),
+        bool(reserved[DHT_BYTE] & DHT_BIT),
+    )  # fmt: skip
 
 
 class Inbound:

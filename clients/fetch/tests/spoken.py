@@ -8,7 +8,7 @@ import unittest
 from pathlib import Path
 from typing import Any, cast
 
-from fetch.download import Download
+from fetch.transfer import Transfer
 from fetch.options import Options
 from fetch.peer import Peer
 from fetch.wire import Inbound
@@ -25,15 +25,18 @@ def message(kind: int, *numbers: int, data: bytes = b"") -> bytes:
 class Speaking(unittest.TestCase):
     """One download for each test. Of the content so many pieces are there from the front on."""
 
+    torrent = single_torrent()
     had = 10
     most_peers = 50
+    choices: dict[str, Any] = {}  # other options
 
     def setUp(self) -> None:
         folder = tempfile.TemporaryDirectory()
         self.addCleanup(folder.cleanup)
         out = Path(folder.name, "out")
         Path(f"{out}.part").write_bytes(CONTENT[: self.had * PIECE])
-        self.download = Download(Options("", str(out), listens=False, asks_trackers=False, quiet=True, most_peers=self.most_peers), single_torrent())
+        options = Options("", str(out), listens=False, asks_trackers=False, quiet=True, most_peers=self.most_peers, **self.choices)
+        self.download = Transfer(options, self.torrent)
         self.addCleanup(self.download.close)
         self.download.prepare()
         self.session = self.download.parts.session

@@ -81,10 +81,12 @@ class Seeder:
     infohash: bytes
     manners: Manners = field(default_factory=Manners)
     content: bytes = CONTENT
+    host: str = "127.0.0.1"
 
     def __post_init__(self) -> None:
-        self.listener = socket.create_server(("127.0.0.1", 0))
-        self.address = f"127.0.0.1:{self.listener.getsockname()[1]}"
+        is_six = ":" in self.host
+        self.listener = socket.create_server((self.host, 0), family=socket.AF_INET6 if is_six else socket.AF_INET)
+        self.address = (f"[{self.host}]" if is_six else self.host) + f":{self.listener.getsockname()[1]}"
         self.haves = self.blocks = self.connections = 0
         self.heard: list[int] = []  # the kinds of messages that came
         threading.Thread(target=self._accept, daemon=True).start()
@@ -195,8 +197,9 @@ class Downloading(unittest.TestCase):
 
     def start(self, *words: str, seeders: tuple[Seeder, ...] = ()) -> subprocess.Popen[str]:
         """Starts the program."""
-        command = [sys.executable, "-B", "-W", "error", str(Path(CLIENTS, "fetch.py")), "--quiet", *([] if self.listens else ["--no-listen"]), *words]
-        command += [str(self.torrent_path), str(self.out), *(seeder.address for seeder in seeders)]
+        command = [sys.executable, "-B", "-W", "error", str(Path(CLIENTS, "fetch.py")), "--quiet", "--no-dht"]
+        command += [] if self.listens else ["--no-listen"]
+        command += ["--figures", *words, str(self.torrent_path), str(self.out), *(seeder.address for seeder in seeders)]
         return subprocess.Popen(command, stdout=subprocess.PIPE, stderr=subprocess.PIPE, text=True)
 
     def fetch(self, *seeders: Seeder, words: tuple[str, ...] = (), status: int = 0) -> dict[str, str]:

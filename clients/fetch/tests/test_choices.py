@@ -7,7 +7,7 @@ import unittest
 from collections import Counter
 from collections.abc import Hashable
 
-from fetch.addresses import Addresses, delay, parse
+from fetch.addresses import Addresses, Origin, delay, parse
 from fetch.blame import Blame
 from fetch.choking import OPTIMISTIC_ROUNDS, Candidate, Choker
 from fetch.rate import Rate
@@ -91,7 +91,7 @@ class Known(unittest.TestCase):
         addresses = Addresses()
         for number in range(100000):
             addresses.add((f"10.{number >> 16}.{number >> 8 & 255}.{number & 255}", 1 + number % 60000))
-        addresses.add(("192.168.0.1", 1), is_given=True)
+        addresses.add(("192.168.0.1", 1), Origin.USER)
         self.assertLessEqual(len(addresses.known), 2001)
         self.assertIn(("192.168.0.1", 1), addresses.known)
 

@@ -12,7 +12,7 @@ from pathlib import Path
 
 from fetch import CLIENTS
 
-from .support import BLOCK, CONTENT, PIECE, PIECES, Downloading
+from .support import BLOCK, CONTENT, PIECE, PIECES, Downloading, Seeder
 
 BLOCKS = 161  # 40 pieces of four blocks, and one of one
 
@@ -41,6 +41,16 @@ class Single(Downloading):
 
     def test_parts(self) -> None:
         self.fetch(self.seeder(pieces=range(20)), self.seeder(pieces=range(15, PIECES)))
+        self.assert_same()
+
+    def test_six(self) -> None:
+        """A peer with an address of IPv6, where this machine has them."""
+        try:
+            seeder = Seeder(self.infohash, host="::1")
+        except OSError:
+            self.skipTest("the loopback interface has no IPv6")
+        self.addCleanup(seeder.close)
+        self.fetch(seeder)
         self.assert_same()
 
     def test_rejects(self) -> None:
@@ -212,7 +222,8 @@ class FullDisk(Downloading):
         """The system refuses more than a part of the file; afterwards the download goes on."""
         limit = "import os, resource, sys; resource.setrlimit(resource.RLIMIT_FSIZE, (1 << 20, 1 << 20)); os.execv(sys.executable, sys.argv[1:])"
         seeder = self.seeder()
-        program = [sys.executable, str(Path(CLIENTS, "fetch.py")), "--quiet", "--no-listen", str(self.torrent_path), str(self.out), seeder.address]
+        program = [sys.executable, str(Path(CLIENTS, "fetch.py")), "--quiet", "--no-dht", "--no-listen"]
+        program += [str(self.torrent_path), str(self.out), seeder.address]
         process = subprocess.run([sys.executable, "-c", limit, *program], capture_output=True, text=True, timeout=30)
         self.assertEqual(process.returncode, 4, process.stderr)
         self.assertIn("larger than the system allows", process.stderr)

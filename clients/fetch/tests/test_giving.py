@@ -10,7 +10,7 @@ from pathlib import Path
 from typing import Any, cast
 
 from fetch.peer import Peer
-from fetch.uploads import Limit
+from fetch.limits import Limit
 from fetch.wire import Inbound
 
 from .spoken import Speaking, message
@@ -30,11 +30,13 @@ class Answers(Speaking):
         self.assertEqual(self.said(self.peer(True)), message(BITFIELD, data=flags_of(range(10))))
 
     def test_extended(self) -> None:
-        """Who has the extension protocol is told which message we take, behind what we have (BEP 10)."""
+        """Who has the extension protocol is told which messages we take and how long our info is, behind what we have (BEP 9, 10)."""
         peer = Peer(cast(Any, None), ("127.0.0.1", 1), True, Inbound(PIECES), self.session.now)
         peer.is_extended = True
         self.session.join(peer, 0)
-        self.assertTrue(self.said(peer).endswith(message(EXTENDED, data=b"\0d1:md11:lt_donthavei7eee")))
+        length = len(self.torrent[self.torrent.index(b"4:info") + 6 : -1])
+        told = b"\0d1:md11:lt_donthavei7e11:ut_metadatai2ee13:metadata_sizei%de1:v9:piecepicke" % length
+        self.assertTrue(self.said(peer).endswith(message(EXTENDED, data=told)))
 
     def test_given(self) -> None:
         peer = self.peer(False)

@@ -17,7 +17,7 @@ import unittest
 from pathlib import Path
 from typing import Any, cast
 
-from fetch.download import Download
+from fetch.transfer import Transfer
 from fetch.options import Options
 from fetch.peer import Peer
 from fetch.wire import Inbound, WireFault
@@ -31,6 +31,11 @@ SESSIONS = int(os.environ.get("FETCH_SESSIONS", "2000"))
 NUMBERS = [0, 1, PIECES - 1, PIECES, BLOCK, 2 * BLOCK, PIECE, 0x7FFFFFFF, 0xFFFFFFFF]
 # Of the extension protocol.
 HELLOS = [b"\0d1:md11:lt_donthavei3eee", b"\0d1:md11:lt_donthavei-1eee", b"\0d1:mlee", b"\0" + 40 * b"d1:m", b"\0i1e", b"\x63", b""]
+INFO_AND_PEERS = [
+    b"\x02d8:msg_typei0e5:piecei0ee", b"\x02d8:msg_typei0e5:piecei99999999eex", b"\x02d8:msg_typei7e5:piecei-1ee", b"\x02" + b"d" * 60,
+    b"\x01d5:added7:\x0a\0\0\x01\x1a\xe1xe", b"\x01d5:addedle7:droppedi3ee", b"\x01le",
+]  # fmt: skip
+PORT = 9
 
 
 def message(kind: int, payload: bytes = b"") -> bytes:
@@ -55,7 +60,7 @@ class Nonsense:
     def part(self, asked: list[tuple[int, int]]) -> bytes:
         """Some bytes: a right message, one that is nearly right, or any; `asked` is what we ask of the peer."""
         chance = self.chance
-        kind = chance.choice([0, 1, 1, 2, 3, HAVE, BITFIELD, REQUEST, BLOCK_MESSAGE, CANCEL, 9, 13, HAVE_ALL, 15, REJECT, 17, EXTENDED, 255])
+        kind = chance.choice([0, 1, 1, 2, 3, HAVE, BITFIELD, REQUEST, BLOCK_MESSAGE, CANCEL, PORT, 13, HAVE_ALL, 15, REJECT, 17, EXTENDED, 255])
         if asked and chance.random() < 0.5:
             return self.answer(asked)
         if chance.random() < 0.1:
@@ -65,7 +70,9 @@ class Nonsense:
         if kind == BITFIELD:
             payload = flags_of(range(chance.randrange(PIECES + 1))) if chance.random() < 0.8 else chance.randbytes(chance.randrange(9))
         if kind == EXTENDED:
-            payload = chance.choice([b"\x07" + self.numbers(1), *HELLOS])
+            payload = chance.choice([b"\x07" + self.numbers(1), *HELLOS, *INFO_AND_PEERS])
+        if kind == PORT:
+            payload = chance.randbytes(2)
         if kind == BLOCK_MESSAGE:
             payload += bytes(chance.choice([0, 1, BLOCK - 1, BLOCK, BLOCK + 1]))
         if chance.random() < 0.05:
@@ -93,7 +100,7 @@ class InProcess(unittest.TestCase):
         self.addCleanup(folder.cleanup)
         self.out = Path(folder.name, "out")
         options = Options("", str(self.out), listens=False, asks_trackers=False, quiet=True)
-        self.download = Download(options, single_torrent())
+        self.download = Transfer(options, single_torrent())
         self.addCleanup(self.download.close)
         self.download.prepare()
 

@@ -6,7 +6,7 @@ import contextlib
 import io
 import unittest
 
-from fetch.options import read
+from fetch.command_line import read
 
 from .support import Downloading
 
@@ -26,7 +26,8 @@ class Read(unittest.TestCase):
 
     def test_refused(self) -> None:
         for words, told in (
-            ("a.torrent", "OUT is missing"), ("a.torrent out 1.2.3.4", "no address"), ("--port 65536 a.torrent out", "65535"),
+            ("", "TORRENT is missing"),
+            ("a.torrent out 1.2.3.4", "no address"), ("a.torrent 1.2.3.4:99999", "no address"), ("--port 65536 a.torrent out", "65535"),
             ("--level 1=8 a.torrent out", "no level"), ("--level 1 a.torrent out", "no whole number"), ("--only 3-1 a.torrent out", "names no files"),
             ("--only 1-99999999999 a.torrent out", "names no files"), ("--peers 0 a.torrent out", "1 to 500"), ("--up -1 a.torrent out", "--up"),
             ("--seed nan a.torrent out", "no amount"), ("--nonsense a.torrent out", "--nonsense"),
@@ -42,7 +43,7 @@ class Statuses(Downloading):
     """The program's statuses, and its sentence for each."""
 
     def test_no_torrent(self) -> None:
-        for data, told in ((b"", "BEP 3"), (b"le", "not dictionary"), (b"de", "missing key"), (b"d4:infodee", "missing key")):
+        for data, told in ((b"", "the file is empty"), (b"le", "not dictionary"), (b"de", "missing key"), (b"d4:infodee", "missing key")):
             self.torrent_path.write_bytes(data)
             with self.subTest(data):
                 self.fetch(status=3)

@@ -54,8 +54,8 @@ class Lines(unittest.TestCase):
         self.assertEqual([duration(5), duration(65), duration(3661)], ["0:05", "1:05", "1:01:01"])
 
     def test_line(self) -> None:
-        told = line(State(done=250000, wanted=1000000, down=50000.0, up=0.0, peers=1))
-        self.assertEqual(told, " 25.0% of 1.0 MB, 50.0 kB/s down, 1 peer, 0:15 left")
+        told = line(State(done=250000, wanted=1000000, down=50000.0, up=0.0, peers=1, pieces_done=3, pieces=16))
+        self.assertEqual(told, " 25.0% of 1.0 MB, 3 of 16 pieces, 50.0 kB/s down, 1 peer, 0:15 left")
         self.assertIn("100.0%", line(State(done=0, wanted=0, down=0.0, up=2.0, peers=2)))
 
 
@@ -84,7 +84,7 @@ class Pictures(unittest.TestCase):
     def test_words(self) -> None:
         root = ElementTree.fromstring(draw(self.trace(), "A & B"))
         texts = [text.text for text in root.iter(f"{SVG}text")]
-        for told in ("A & B", "a<b: 5 blocks", "c: 3 blocks", "endgame", "shown by 1 (dark) to 2"):
+        for told in ("A & B", "a<b: 5 blocks", "c: 3 blocks", "endgame", "shown by 1 (dark) to 2", "seconds", "piece"):
             self.assertIn(told, texts)
         self.assertEqual(len(list(root.iter(f"{SVG}circle"))), 1)
 
@@ -143,7 +143,7 @@ class Whole(Downloading):
     def on_terminal(self, *words: str) -> str:
         """What a download writes to a terminal."""
         ours, theirs = pty.openpty()
-        command = [sys.executable, "-B", str(Path(CLIENTS, "fetch.py")), "--no-listen", *words]
+        command = [sys.executable, "-B", str(Path(CLIENTS, "fetch.py")), "--no-dht", "--no-listen", *words]
         command += [str(self.torrent_path), str(self.out), self.seeder(delay=0.01).address]
         written = b""
         with subprocess.Popen(command, stdout=subprocess.DEVNULL, stderr=theirs) as process:
@@ -210,7 +210,7 @@ class Whole(Downloading):
 
     def test_jump(self) -> None:
         """A reader in the middle gets its pieces before those in front of it."""
-        connection = self.serving(delay=0.01)
+        connection = self.serving(delay=0.04)
         begin = 15 * PIECE
         status, body, _ = self.get(connection, "/5/d", Range=f"bytes={begin}-{begin + PIECE - 1}")
         self.assertEqual((status, body), (206, parts()["d"][begin : begin + PIECE]))

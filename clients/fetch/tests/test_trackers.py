@@ -6,6 +6,7 @@ import random
 import threading
 import time
 import unittest
+from collections.abc import Sized
 
 from bencode import Value, bencode
 from fetch import announcing, tracker_http, tracker_udp
@@ -210,8 +211,8 @@ class Tiers(unittest.TestCase):
 class Swarms(Downloading):
     """Programs that find each other by a tracker."""
 
-    def meet(self, url: str) -> None:
-        """One has the content and gives it to the other."""
+    def meet(self, url: str, announces: Sized) -> None:
+        """One has the content and gives it to the other, once its announce is there."""
         torrent = single_torrent().replace(b"27:http://127.0.0.1:9/announce", b"%d:%s" % (len(url), url.encode()))
         self.torrent_path.write_bytes(torrent)
         (self.folder / "full").write_bytes(CONTENT)
@@ -220,9 +221,12 @@ class Swarms(Downloading):
         self.out = out
         self.addCleanup(giver.communicate)
         self.addCleanup(giver.kill)
-        time.sleep(1.0)
+        deadline = time.monotonic() + 60
+        while not len(announces) and time.monotonic() < deadline:
+            time.sleep(0.02)
         figures = self.fetch()
-        (self.folder / "full").unlink()
+        for name in ("full", "full.piecepick.lock"):
+            (self.folder / name).unlink()
         self.assert_same()
         self.assertEqual(figures["announces"], "1")
 
@@ -231,7 +235,7 @@ class Swarms(Downloading):
     def test_http(self) -> None:
         tracker = HttpTracker()
         self.addCleanup(tracker.close)
-        self.meet(tracker.url)
+        self.meet(tracker.url, tracker.announces)
         events = [told.get("event") for told in tracker.announces]
         self.assertEqual(events[-3:], ["started", "completed", "stopped"])
         self.assertEqual(tracker.announces[0]["left"], "0")

@@ -5,7 +5,7 @@ from __future__ import annotations
 import random
 import unittest
 
-from fetch.extended import read_dont_have, read_hello, spell_dont_have, spell_hello
+from fetch.extended import Extension, read_dont_have, read_hello, spell_dont_have, spell_hello
 from fetch.wire import Handshake, Inbound, Message, WireFault, block_of, numbers_of, read_handshake, spell, spell_bitfield, spell_block
 
 INFOHASH, PEER_ID = bytes(range(20)), b"-PP0000-abcdefghijkl"
@@ -30,16 +30,16 @@ class Spelled(unittest.TestCase):
         head = b"\x13BitTorrent protocol"
         self.assertEqual(Handshake(INFOHASH, PEER_ID).spell(), head + bytes(5) + b"\x10\0\x04" + INFOHASH + PEER_ID)
         self.assertEqual(Handshake(INFOHASH, PEER_ID, False, False).spell(), head + bytes(8) + INFOHASH + PEER_ID)
-        self.assertEqual(read_handshake(head + b"\xff" * 8 + INFOHASH + PEER_ID), Handshake(INFOHASH, PEER_ID, True, True))
+        self.assertEqual(read_handshake(head + b"\xff" * 8 + INFOHASH + PEER_ID), Handshake(INFOHASH, PEER_ID, True, True, True))
         self.assertFalse(read_handshake(head + b"\xff" * 7 + b"\xfb" + INFOHASH + PEER_ID).is_fast)
         self.assertFalse(read_handshake(head + b"\xff" * 5 + b"\xef\xff\xff" + INFOHASH + PEER_ID).is_extended)
 
     def test_extended(self) -> None:
         """Each side says its own number for a message, and is told it by that."""
-        self.assertEqual(spell_hello(), b"\0\0\0\x1a\x14\0d1:md11:lt_donthavei7eee")
+        self.assertEqual(spell_hello([Extension.DONT_HAVE]), b"\0\0\0\x28\x14\0d1:md11:lt_donthavei7ee1:v9:piecepicke")
         self.assertEqual(spell_dont_have(3, 258), bytes.fromhex("00000006 14 03 00000102"))
         for told, number in ((b"d1:md11:lt_donthavei9eee", 9), (b"d1:md6:ut_pexi1eee", 0), (b"d1:v2:lte", 0), (b"d1:md11:lt_donthavei256eee", 0)):
-            self.assertEqual(read_hello(memoryview(told)), number, told)
+            self.assertEqual(read_hello(memoryview(told)).number(Extension.DONT_HAVE), number, told)
         for wrong in (b"", b"le", b"d1:mi1ee", b"d1:md11:lt_donthavei9ee"):
             with self.subTest(wrong), self.assertRaises(WireFault):
                 read_hello(memoryview(wrong))

@@ -21,6 +21,7 @@ class HttpTracker:
     def __init__(self, reply: bytes = b"", status: int = 200, host: str = "127.0.0.1", shortest: int = 60) -> None:
         self.reply, self.status, self.shortest = reply, status, shortest
         self.announces: list[dict[str, str]] = []
+        self.only: tuple[str, int] | None = None  # where nobody else is named
         self.peers: dict[str, dict[str, tuple[str, int]]] = {}
         tracker = self
 
@@ -51,7 +52,8 @@ class HttpTracker:
         if self.reply:
             return self.reply
         peers = self.peers.setdefault(told["info_hash"], {})
-        others = compact([address for peer_id, address in peers.items() if peer_id != told["peer_id"]])
+        named = [address for peer_id, address in peers.items() if peer_id != told["peer_id"]]
+        others = compact([address for address in named if self.only in (None, address)])
         if told.get("event") == "stopped":
             peers.pop(told["peer_id"], None)
         else:

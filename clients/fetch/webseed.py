@@ -1,0 +1,101 @@
+"""A web server as a peer (BEP 19): a thread takes requests as peers send them, and answers by ranges of the server's files."""
+
+from __future__ import annotations
+
+import contextlib
+import hashlib
+import select
+import socket
+import threading
+from collections import OrderedDict
+from collections.abc import Callable
+
+from .layout import BLOCK
+from .ranges import RangeFault, Ranges
+from .wire import HANDSHAKE_LENGTH, Handshake, Inbound, Message, WireFault, numbers_of, spell, spell_block
+
+LONGEST_RUN = 1 << 23  # bytes that one request of a range asks for
+READ = 1 << 16
+
+
+def peer_id_of(url: str) -> bytes:
+    """The number under which a server is a peer."""
+    return b"-WS0000-" + hashlib.sha1(url.encode()).digest()[:12]
+
+
+class WebSeed:
+    """The peer of one server. `connection` is its end of a pair of sockets, whose other end is the swarm's."""
+
+    def __init__(self, url: str, ranges: Ranges, infohash: bytes, connection: socket.socket, on_fault: Callable[[str], None]) -> None:
+        self.url, self.ranges, self.infohash, self.connection, self.on_fault = url, ranges, infohash, connection, on_fault
+        self.inbound = Inbound(ranges.layout.pieces)
+        self.wanted: OrderedDict[int, int] = OrderedDict()  # of each begin in the content the length
+
+    def start(self) -> None:
+        """Answers from now on, until the other end is closed or the server doesn't do what it should."""
+        threading.Thread(target=self._run, name="web seed", daemon=True).start()
+
+    def _run(self) -> None:
+        try:
+            with contextlib.suppress(OSError, WireFault):  # the other end is gone
+                self._greet()
+                while self._listen(self.connection):
+                    self._answer()
+        except RangeFault as fault:
+            self.on_fault(str(fault))
+        finally:
+            self.ranges.close()
+            self.connection.close()
+
+    def _greet(self) -> None:
+        """All pieces are there, and may be asked for."""
+        head = b""
+        while len(head) < HANDSHAKE_LENGTH:
+            data = self.connection.recv(HANDSHAKE_LENGTH - len(head))
+            if not data:
+                raise ConnectionResetError
+            head += data
+        hello = Handshake(self.infohash, peer_id_of(self.url), is_fast=True, is_extended=False)
+        self.connection.sendall(hello.spell() + spell(Message.HAVE_ALL) + spell(Message.UNCHOKE))
+
+    def _listen(self, connection: socket.socket) -> bool:
+        """Takes what came, and waits for something where nothing is wanted; whether the other end is there."""
+        while not self.wanted or select.select([connection], [], [], 0)[0]:
+            data = connection.recv(READ)
+            if not data:
+                return False
+            for kind, payload in self.inbound.messages(data):
+                if kind == Message.REQUEST:
+                    piece, begin, length = numbers_of(Message.REQUEST, payload)
+                    self.wanted[piece * self.ranges.layout.piece_length + begin] = length
+                elif kind == Message.CANCEL:
+                    piece, begin, _ = numbers_of(Message.CANCEL, payload)
+                    self.wanted.pop(piece * self.ranges.layout.piece_length + begin, None)
+        return True
+
+    def _next_run(self) -> list[tuple[int, int]]:
+        """The oldest request, with those that lie behind it one after the other."""
+        begin, length = self.wanted.popitem(last=False)
+        run, end = [(begin, length)], begin + length
+        while end in self.wanted and end - begin < LONGEST_RUN:
+            length = self.wanted.pop(end)
+            run.append((end, length))
+            end += length
+        return run
+
+    def _answer(self) -> None:
+        """One range, as the blocks that were asked for."""
+        run = self._next_run()
+        parts = self.ranges.read(run[0][0], sum(length for _, length in run))
+        rest = bytearray()
+        for begin, length in run:
+            while len(rest) < length:
+                rest += next(parts)
+            piece, inside = divmod(begin, self.ranges.layout.piece_length)
+            self.connection.sendall(spell_block(piece, inside, bytes(rest[:length])))
+            del rest[:length]
+        for _ in parts:  # to its end, so that the connection may stay
+            pass
+
+
+assert LONGEST_RUN % BLOCK == 0
