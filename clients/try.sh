@@ -124,9 +124,9 @@ int main()
     first = std::move(second);
     well = well && throws(PIECEPICK_E_SHUT, [&] { (void)second.pieces(); }) && first.pieces() == 1;
     well = well && throws(PIECEPICK_E_WORKER, [&] { first.join(50); }) && throws(PIECEPICK_E_BENCODE, [&] { Picker(std::string(), options); });
-    well = well && throws(PIECEPICK_E_NOT_WAITING, [&] { (void)first.job(0); });
+    well = well && throws(PIECEPICK_E_NOT_WAITING, [&] { (void)first.job_take(0); });
     well = well && first.join(0).kind == PIECEPICK_K_JOINED && first.arrived(0, 0, 0, std::string("0")).kind == PIECEPICK_K_COMPLETED;
-    Job job = first.job(0), same = std::move(job);
+    Job job = first.job_take(0), same = std::move(job);
     well = well && throws(PIECEPICK_E_NO_JOB, [&] { job.hash(); }) && throws(PIECEPICK_E_NOT_HASHED, [&] { (void)first.settle(same); });
     job = std::move(same);
     job.hash();
@@ -243,7 +243,7 @@ delays() {
 
 python() { python3 -B -W error -m unittest discover -s "$here/python/tests"; }
 
-fetch() { (cd "$here" && python3 -B -W error -m unittest discover -s fetch/tests -t .); }
+fetch() { (cd "$here" && python3 -B -m fetch.tests); }
 
 rust() {
     if command -v cargo > /dev/null; then
