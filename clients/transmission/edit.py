@@ -54,6 +54,18 @@ WISHLIST = f"{LIBRARY}/peer-mgr-wishlist"
 MANAGER = f"{LIBRARY}/peer-mgr.cc"
 MESSAGES = f"{LIBRARY}/peer-msgs.cc"
 BUILD = f"{LIBRARY}/CMakeLists.txt"
+FIRST = """\
+    PiecePick& ask_first(tr_torrent& tor, std::vector<tr_peerMsgs*> const& peers)
+    {
+        if (!piecepick)
+        {
+            piecepick = std::make_unique<PiecePick>(tor, peers);
+        }
+        return *piecepick;
+    }
+
+    std::unique_ptr<PiecePick> piecepick;
+"""
 ASK = """\
     if (piecepick)
     {
@@ -64,14 +76,14 @@ ASK = """\
     }
 """
 UNWANTED = """\
-
 // What follows a block that nobody waits for, as one that was cancelled and comes all the same.
 // At Err the bytes behind it stay unread until more of them come.
 #ifdef WITH_PIECEPICK
-auto constexpr AfterUnwanted = ReadState::Now;
+inline auto constexpr AfterUnwanted = ReadState::Now;
 #else
-auto constexpr AfterUnwanted = ReadState::Err;
+inline auto constexpr AfterUnwanted = ReadState::Err;
 #endif
+
 """
 CHANGED = "            priority_changed_.emit(this, files, n_files, TR_PRI_NORMAL); // no other event tells of wanted files\n"
 
@@ -79,19 +91,21 @@ EDITS = (
     behind("CMakeLists.txt", r"option\(ENABLE_UTP ", 'option(ENABLE_PIECEPICK "Choose what to request by the piecepick library" OFF)\n'),
     before("CMakeLists.txt", r"find_package\(Threads\)", "if(ENABLE_PIECEPICK)\n    find_package(piecepick 3 REQUIRED CONFIG)\nendif()\n\n"),
     before(BUILD, r" peer-mgr-wishlist\.cc", "".join(f"        {name}\n" for name in FILES)),
+    before(BUILD, r"\[=\[\[WITH_INOTIFY\]\]=\]", "    [=[[ENABLE_PIECEPICK]]=]\n        peer-mgr-piecepick.cc\n"),
     before(BUILD, r"<STREQUAL:\$\{CRYPTO_PKG\},ccrypto>", "        $<$<BOOL:${ENABLE_PIECEPICK}>:WITH_PIECEPICK>\n"),
     before(BUILD, r" transmission::crypto_impl", "        $<$<BOOL:${ENABLE_PIECEPICK}>:piecepick::piecepick>\n"),
     behind(f"{WISHLIST}.h", r"libtransmission/observable\.h", '#include "libtransmission/peer-mgr-piecepick.h"\n'),
-    before(f"{WISHLIST}.h", r"private:\n +class Impl;", guarded("    std::unique_ptr<PiecePick> piecepick; // is asked first\n") + "\n"),
+    before(f"{WISHLIST}.h", r"private:\n +class Impl;", guarded(FIRST) + "\n"),
     before(f"{WISHLIST}.cc", r"return impl_->next\(", guarded(ASK)),
-    fills(MANAGER, r"void remove_peer\(tr_peerMsgs", "        piecepick_left(wishlist, *peer);\n"),
-    fills(MANAGER, r"msgs->swarm == s\)", "        piecepick_told(s->wishlist, *msgs, event);\n"),
-    fills(MANAGER, r"static void peer_callback_webseed\(", "        piecepick_told(s->wishlist, *peer, event);\n"),
+    fills(MANAGER, r"void remove_peer\(tr_peerMsgs", "        tr_piecepick_left(wishlist, *peer);\n"),
+    fills(MANAGER, r"msgs->swarm == s\)", "        tr_piecepick_told(s->wishlist, *msgs, event);\n"),
+    fills(MANAGER, r"static void peer_callback_webseed\(", "        tr_piecepick_told(s->wishlist, *peer, event);\n"),
     fills(MANAGER, r"GetNextRequests\(\) is called", ""),
-    before(MANAGER, r"return swarm\.wishlist->next\(", "    piecepick_ask_for(swarm, *peer);\n"),
+    before(MANAGER, r"return swarm\.wishlist->next\(", "    tr_piecepick_ask_for(swarm, *peer);\n"),
     Edit(MESSAGES, r"got unrequested block[^\n]*\n[^\n]*(ReadState::Err)", "AfterUnwanted"),
     Edit(MESSAGES, r"got completed block[^\n]*\n[^\n]*(ReadState::Err)", "AfterUnwanted"),
-    Edit(f"{LIBRARY}/peer-io.h", r"enum class ReadState[^}]*\};\n()", UNWANTED),
+    behind(f"{LIBRARY}/peer-msgs.h", r"^#include \"libtransmission/peer-common\.h\"", '#include "libtransmission/peer-io.h" // for ReadState\n'),
+    before(f"{LIBRARY}/peer-msgs.h", r"^class tr_peerMsgs : ", UNWANTED),
     behind(f"{LIBRARY}/torrent.h", r"if \(!is_bootstrapping\)\n +\{", guarded(CHANGED)),
 )
 

@@ -1,19 +1,14 @@
 // This file may be used under GPLv2 (SPDX: GPL-2.0-only), GPLv3 (SPDX: GPL-3.0-only),
 // or any future license endorsed by Mnemosyne LLC.
 
-#include <algorithm>
-#include <array>
-#include <cstddef> // size_t
-#include <cstdint>
-#include <optional>
-#include <vector>
-
 #define LIBTRANSMISSION_PEER_MODULE
-#include "libtransmission/transmission.h"
+#include "libtransmission/peer-mgr-piecepick.h"
+
+#include <algorithm>
 
 #include "libtransmission/block-info.h"
+#include "libtransmission/values.h" // before peer-common.h, which needs it
 #include "libtransmission/peer-common.h"
-#include "libtransmission/peer-mgr-piecepick.h"
 #include "libtransmission/peer-msgs.h"
 #include "libtransmission/torrent.h"
 #include "libtransmission/utils.h" // tr_time_msec
@@ -23,75 +18,58 @@ namespace
 // the most requests that are in flight at a peer
 auto constexpr Deepest = uint32_t{ 2000U };
 
-// a peer with requests in flight that sends no block for so long is late with them
+// a peer with requests in flight that sends no block for so long is late with them, which is looked after once in a while
 auto constexpr LateMsec = uint64_t{ 10000U };
+auto constexpr LookMsec = uint64_t{ 1000U };
 
-// 0 is unwanted; a priority is one more or less than this one
+// a priority is one more or less than the normal level
 auto constexpr NormalLevel = uint8_t{ 4U };
 
 // in order the first piece and the last one come before all others, so that a player finds what it looks for
 auto constexpr EdgeLevel = uint8_t{ 6U };
 
-// the library has at most 1,024 workers, of which one stands for the disk
+// the library has 1,024 workers at most, of which one is the disk
 auto constexpr MostPeers = size_t{ 1023U };
 } // namespace
 
 PiecePick::PiecePick(tr_torrent& tor, std::vector<tr_peerMsgs*> const& peers)
     : tor_{ tor }
+    , picker_{ nullptr, [](piecepick_picker* picker) { piecepick_close(&picker); } }
     , workers_(std::min(tor.peer_limit() + tor.webseed_count(), MostPeers))
-    , serves_{ open() }
     , tags_{ { tor.got_bad_piece_.observe([this](tr_torrent*, tr_piece_index_t piece) { verdict(piece, false); }),
                tor.piece_completed_.observe([this](tr_torrent*, tr_piece_index_t piece) { verdict(piece, true); }),
                tor.priority_changed_.observe([this](tr_torrent*, tr_file_index_t const*, tr_file_index_t, tr_priority_t)
-                                             { set_levels(), cancel_unwanted(); }),
+                                             { set_levels(); }),
                tor.sequential_download_changed_.observe([this](tr_torrent*, bool) { set_levels(); }) } }
 {
+    open();
     restore();
     set_levels();
-    for (auto* const peer : peers)
-    {
-        join(*peer);
-    }
+    std::for_each(std::begin(peers), std::end(peers), [this](auto* peer) { join(*peer); });
 }
 
-bool PiecePick::open()
+void PiecePick::open()
 {
-    auto const has_whole_blocks = tor_.piece_size() % tr_block_info::BlockSize == 0U;
-    if (!has_whole_blocks)
-    {
-        return false; // such blocks cross the borders of pieces
-    }
-
-    auto digests = std::vector<uint8_t>{};
+    auto digests = std::vector<tr_sha1_digest_t>{};
     for (tr_piece_index_t piece = 0U; piece < tor_.piece_count(); ++piece)
     {
-        auto const hash = tor_.piece_hash(piece);
-        std::transform(std::begin(hash), std::end(hash), std::back_inserter(digests), [](auto b) { return uint8_t(b); });
+        digests.push_back(tor_.piece_hash(piece));
     }
 
     piecepick_options options = PIECEPICK_OPTIONS;
     options.workers = std::size(workers_) + 1U;
     options.deepest = Deepest;
     piecepick_picker* picker = nullptr;
-    auto const status = piecepick_open_parts(
-        &picker,
-        tor_.piece_size(),
-        tor_.total_size(),
-        std::data(digests),
-        std::size(digests),
-        &options);
-    picker_ = { picker, [](piecepick_picker* closing) { piecepick_close(&closing); } };
-    return is_done(status);
+    auto const* const data = reinterpret_cast<uint8_t const*>(std::data(digests));
+    auto const size = std::size(digests) * sizeof(tr_sha1_digest_t);
+    auto const status = piecepick_open_parts(&picker, tor_.piece_size(), tor_.total_size(), data, size, &options);
+    picker_.reset(picker);
+
+    // elsewhere blocks cross the borders of pieces
+    serves_ = status == PIECEPICK_OK && tor_.piece_size() % tr_block_info::BlockSize == 0U;
 }
 
-// A status that isn't OK is met where memory is lacking. From then on the Wishlist chooses.
-bool PiecePick::is_done(piecepick_status status)
-{
-    serves_ = serves_ && status == PIECEPICK_OK;
-    return serves_;
-}
-
-// Where there is no such peer, the number is that of the disk.
+// Where there is no such peer, it is the number of the disk.
 uint32_t PiecePick::find(tr_peer const* peer) const
 {
     auto const is_it = [peer](Worker const& worker)
@@ -101,42 +79,30 @@ uint32_t PiecePick::find(tr_peer const* peer) const
     return std::distance(std::begin(workers_), std::find_if(std::begin(workers_), std::end(workers_), is_it));
 }
 
-tr_block_index_t PiecePick::block(piecepick_answer const& answer) const
+std::vector<piecepick_answer> PiecePick::in_flight(uint32_t worker)
 {
-    return tor_.piece_loc(answer.piece, answer.begin).block;
-}
-
-std::vector<piecepick_answer> PiecePick::in_flight(uint32_t worker) const
-{
-    auto count = uint32_t{};
-    (void)piecepick_outstanding(picker_.get(), worker, &count);
-    auto answers = std::vector<piecepick_answer>(count);
-    for (uint32_t place = 0U; place < count; ++place)
+    auto requests = std::vector<piecepick_answer>(call<uint32_t>(piecepick_outstanding, worker));
+    for (uint32_t place = 0U; place < std::size(requests); ++place)
     {
-        (void)piecepick_outstanding_at(picker_.get(), worker, place, &answers[place]);
+        requests[place] = call(piecepick_outstanding_at, worker, place);
     }
-    return answers;
+    return requests;
 }
 
 // --- what the disk has, and what is wanted
 
 void PiecePick::restore()
 {
-    auto answer = piecepick_answer{};
     uint32_t const disk = std::size(workers_);
-    if (!serves_ || !is_done(piecepick_join(picker_.get(), disk, &answer)))
-    {
-        return;
-    }
-
+    call(piecepick_join, disk);
     for (tr_piece_index_t piece = 0U; piece < tor_.piece_count(); ++piece)
     {
-        answer = {};
-        for (auto [block, end] = tor_.block_span_for_piece(piece); block < end; ++block)
+        auto answer = piecepick_answer{};
+        for (auto [block, end] = tor_.block_span_for_piece(piece); serves_ && block < end; ++block)
         {
             if (tor_.has_block(block))
             {
-                came(disk, piece, tor_.block_loc(block).piece_offset, tor_.block_size(block), answer);
+                answer = came(disk, piece, tor_.block_loc(block).piece_offset, tor_.block_size(block));
             }
         }
         if (answer.kind == PIECEPICK_K_COMPLETED)
@@ -144,39 +110,30 @@ void PiecePick::restore()
             verdict(piece, true);
         }
     }
-    is_done(piecepick_leave(picker_.get(), disk, &answer));
+    call(piecepick_leave, disk);
 }
 
+// What isn't wanted any more is taken back.
 void PiecePick::set_levels()
 {
-    if (!serves_)
+    auto levels = std::vector<uint8_t>(tor_.piece_count());
+    auto const is_in_order = tor_.is_sequential_download();
+    for (tr_piece_index_t piece = 0U; piece < std::size(levels); ++piece)
     {
-        return;
-    }
-
-    auto const n_pieces = tor_.piece_count();
-    auto const is_sequential = tor_.is_sequential_download();
-    auto levels = std::vector<uint8_t>(n_pieces);
-    for (tr_piece_index_t piece = 0U; piece < n_pieces; ++piece)
-    {
-        auto const is_edge = is_sequential && (piece == 0U || piece + 1U == n_pieces);
+        auto const is_edge = is_in_order && (piece == 0U || piece + 1U == std::size(levels));
         auto const level = is_edge ? EdgeLevel : NormalLevel + tor_.piece_priority(piece);
         levels[piece] = tor_.piece_is_wanted(piece) ? level : 0U;
     }
-    auto answer = piecepick_answer{};
-    is_done(piecepick_set_levels(picker_.get(), std::data(levels), std::size(levels), &answer));
-    is_done(piecepick_set_in_order(picker_.get(), is_sequential ? 1U : 0U, &answer));
-}
+    call(piecepick_set_levels, std::data(levels), std::size(levels));
+    call(piecepick_set_in_order, is_in_order ? 1U : 0U);
 
-void PiecePick::cancel_unwanted()
-{
-    for (uint32_t worker = 0U; serves_ && worker < std::size(workers_); ++worker)
+    for (uint32_t worker = 0U; worker < std::size(workers_); ++worker)
     {
-        for (auto const& answer : in_flight(worker))
+        for (auto const& request : in_flight(worker))
         {
-            if (!tor_.piece_is_wanted(answer.piece))
+            if (levels[request.piece] == 0U)
             {
-                workers_[worker].peer->maybe_cancel_block_request(block(answer));
+                workers_[worker].peer->maybe_cancel_block_request(tor_.piece_loc(request.piece, request.begin).block);
             }
         }
     }
@@ -188,10 +145,10 @@ void PiecePick::join(tr_peer& peer)
 {
     auto const worker = find(nullptr);
     serves_ = serves_ && worker < std::size(workers_);
-    auto answer = piecepick_answer{};
-    if (serves_ && is_done(piecepick_join(picker_.get(), worker, &answer)))
+    call(piecepick_join, worker);
+    if (serves_)
     {
-        workers_[worker] = { &peer };
+        workers_[worker].peer = &peer;
         show(worker);
     }
 }
@@ -200,18 +157,16 @@ void PiecePick::show(uint32_t worker)
 {
     if (auto const& has = workers_[worker].peer->has(); !has.has_none())
     {
-        auto const raw = has.raw();
-        auto answer = piecepick_answer{};
-        is_done(piecepick_haves(picker_.get(), worker, std::data(raw), std::size(raw), &answer));
+        auto const flags = has.raw();
+        call(piecepick_haves, worker, std::data(flags), std::size(flags));
     }
 }
 
 void PiecePick::left(tr_peer const& peer)
 {
-    if (auto const worker = find(&peer); serves_ && worker < std::size(workers_))
+    if (auto const worker = find(&peer); worker < std::size(workers_))
     {
-        auto answer = piecepick_answer{};
-        is_done(piecepick_leave(picker_.get(), worker, &answer));
+        call(piecepick_leave, worker);
         workers_[worker] = {};
     }
 }
@@ -221,69 +176,59 @@ void PiecePick::told(tr_peer& peer, tr_peer_event const& event)
     using Type = tr_peer_event::Type;
 
     auto const worker = find(&peer);
-    auto const shows = event.type == Type::ClientGotHave || event.type == Type::ClientGotHaveAll ||
-        event.type == Type::ClientGotBitfield;
-    if (serves_ && worker == std::size(workers_) && shows)
+    if (worker == std::size(workers_))
     {
-        join(peer);
-    }
-    if (!serves_ || worker == std::size(workers_))
-    {
-        return;
+        return peer.has().has_none() ? void() : join(peer);
     }
 
-    auto answer = piecepick_answer{};
-    auto* const picker = picker_.get();
-    workers_[worker].idle_at.reset();
     switch (event.type)
     {
     case Type::ClientGotHave:
-        is_done(piecepick_have(picker, worker, event.pieceIndex, &answer));
+        call(piecepick_have, worker, event.pieceIndex);
         break;
     case Type::ClientGotHaveAll:
     case Type::ClientGotBitfield:
         show(worker);
         break;
     case Type::ClientGotChoke:
-        is_done(piecepick_choke(picker, worker, &answer));
-        workers_[worker].is_choked = true;
+        call(piecepick_choke, worker);
         break;
     case Type::ClientGotRej:
     case Type::ClientSentCancel:
-        is_done(piecepick_release(picker, worker, event.pieceIndex, event.offset, &answer));
+        call(piecepick_release, worker, event.pieceIndex, event.offset);
         break;
     case Type::ClientGotBlock:
+        came(worker, event.pieceIndex, event.offset, event.length);
         workers_[worker].heard_at = tr_time_msec();
-        came(worker, event.pieceIndex, event.offset, event.length, answer);
         break;
     default:
-        break;
+        return;
     }
+    workers_[worker].idle_at.reset();
 }
 
-// These two are all that stands in for calls without bytes and with a verdict in place of a digest. The library reads no byte
-// of a block here, and a piece that passed its check has the digest that the torrent says.
+// These two stand in for calls without bytes, and with a verdict in place of a digest. The library reads no byte of a block,
+// and a piece that has passed its check has the digest of the torrent.
 
-void PiecePick::came(uint32_t worker, uint32_t piece, uint32_t begin, uint32_t length, piecepick_answer& answer)
+piecepick_answer PiecePick::came(uint32_t worker, uint32_t piece, uint32_t begin, uint32_t length)
 {
     static auto constexpr Unread = std::array<uint8_t, tr_block_info::BlockSize>{};
-    is_done(piecepick_arrived(picker_.get(), worker, piece, begin, std::data(Unread), length, &answer));
+    return call(piecepick_arrived, worker, piece, begin, std::data(Unread), length);
 }
 
 void PiecePick::verdict(tr_piece_index_t piece, bool passed)
 {
+    auto const hash = passed ? tor_.piece_hash(piece) : tr_sha1_digest_t{};
     auto digest = piecepick_digest{};
-    auto const hash = tor_.piece_hash(piece);
-    std::transform(std::begin(hash), std::end(hash), digest.bytes, [passed](auto b) { return uint8_t(passed ? b : ~b); });
-    auto answer = piecepick_answer{};
-    (void)piecepick_settle(picker_.get(), piece, &digest, &answer);
+    std::copy_n(reinterpret_cast<uint8_t const*>(std::data(hash)), std::size(hash), digest.bytes);
+    call(piecepick_settle, piece, &digest);
 }
 
 // --- what to request
 
 void PiecePick::ask_for(tr_peer const& peer)
 {
-    if (serves_ && find(&peer) == std::size(workers_))
+    if (find(&peer) == std::size(workers_))
     {
         join(const_cast<tr_peer&>(peer));
     }
@@ -292,98 +237,80 @@ void PiecePick::ask_for(tr_peer const& peer)
 
 std::optional<std::vector<tr_block_span_t>> PiecePick::next(size_t n_wanted_blocks)
 {
-    if (!serves_ || asked_ == std::size(workers_))
+    auto const now = tr_time_msec();
+    look_over(now);
+    if (!serves_)
     {
         return {};
     }
 
     auto& worker = workers_[asked_];
-    auto const now = tr_time_msec();
-    auto answer = piecepick_answer{};
-    if (worker.is_choked)
-    {
-        worker.is_choked = !is_done(piecepick_unchoke(picker_.get(), asked_, &answer));
-    }
-    release_unsent(asked_);
-    find_late(now);
-
-    auto epoch = uint64_t{};
-    (void)piecepick_epoch(picker_.get(), &epoch);
-    if (worker.idle_at == epoch)
+    if (worker.idle_at == call<uint64_t>(piecepick_epoch))
     {
         return std::vector<tr_block_span_t>{};
     }
-    auto in_flight = uint32_t{};
-    (void)piecepick_outstanding(picker_.get(), asked_, &in_flight);
-    if (in_flight == 0U)
+    auto const n_active = call<uint32_t>(piecepick_outstanding, asked_);
+    if (n_active == 0U)
     {
         worker.heard_at = now;
     }
-    auto const depth = std::min(in_flight + uint32_t(n_wanted_blocks), Deepest);
-    is_done(piecepick_depth(picker_.get(), asked_, depth, &answer));
+    call(piecepick_unchoke, asked_);
+    call(piecepick_depth, asked_, std::min(n_active + uint32_t(n_wanted_blocks), Deepest));
     return ask(asked_, n_wanted_blocks);
 }
 
-// Blocks come in the order in which they are chosen, and neighbours as one span.
+// Blocks are requested in the order in which they are chosen, and neighbours as one span.
 std::vector<tr_block_span_t> PiecePick::ask(uint32_t worker, size_t n_wanted_blocks)
 {
     auto spans = std::vector<tr_block_span_t>{};
     auto* const peer = workers_[worker].peer;
-    auto answer = piecepick_answer{};
-    while (n_wanted_blocks > 0U && is_done(piecepick_next(picker_.get(), worker, salter_(), &answer)))
+    while (n_wanted_blocks > 0U)
     {
+        auto const answer = call(piecepick_next, worker, salter_());
+        auto const block = tor_.piece_loc(answer.piece, answer.begin).block;
         if (answer.kind == PIECEPICK_K_CANCEL)
         {
-            peer->maybe_cancel_block_request(block(answer));
+            peer->maybe_cancel_block_request(block);
         }
         else if (answer.kind != PIECEPICK_K_REQUEST)
         {
+            workers_[worker].idle_at = call<uint64_t>(piecepick_epoch);
             break;
         }
-        else if (auto const b = block(answer); !peer->active_requests.test(b)) // else it was in flight before the picker was
+        else if (!peer->active_requests.test(block)) // else it was in flight before the picker was
         {
             --n_wanted_blocks;
-            if (std::empty(spans) || spans.back().end != b)
+            if (std::empty(spans) || spans.back().end != block)
             {
-                spans.push_back({ b, b });
+                spans.push_back({ block, block });
             }
             ++spans.back().end;
         }
     }
-    if (answer.kind == PIECEPICK_K_IDLE || answer.kind == PIECEPICK_K_NOTHING_LEFT)
-    {
-        (void)piecepick_epoch(picker_.get(), &workers_[worker].idle_at.emplace());
-    }
     return spans;
 }
 
-// A web seed isn't sent all that is chosen, and requests end without an event at a time-out.
-void PiecePick::release_unsent(uint32_t worker)
+// Which requests take too long; and which weren't sent, since a web seed sends less than was chosen.
+void PiecePick::look_over(uint64_t now)
 {
-    for (auto const& unsent : in_flight(worker))
+    if (now - looked_at_ < LookMsec)
     {
-        if (!workers_[worker].peer->active_requests.test(block(unsent)))
-        {
-            auto answer = piecepick_answer{};
-            is_done(piecepick_release(picker_.get(), worker, unsent.piece, unsent.begin, &answer));
-        }
+        return;
     }
-}
 
-void PiecePick::find_late(uint64_t now)
-{
-    for (uint32_t number = 0U; number < std::size(workers_); ++number)
+    looked_at_ = now;
+    for (uint32_t worker = 0U; worker < std::size(workers_); ++worker)
     {
-        auto& worker = workers_[number];
-        if (worker.peer == nullptr || now - worker.heard_at < LateMsec)
+        auto& [peer, heard_at, idle_at] = workers_[worker];
+        auto const is_late = now - heard_at >= LateMsec;
+        for (auto const& request : in_flight(worker))
         {
-            continue;
+            auto const is_sent = peer->active_requests.test(tor_.piece_loc(request.piece, request.begin).block);
+            if (!is_sent || is_late)
+            {
+                call(is_sent ? piecepick_late : piecepick_release, worker, request.piece, request.begin);
+            }
         }
-        for (auto const& late : in_flight(number))
-        {
-            auto answer = piecepick_answer{};
-            is_done(piecepick_late(picker_.get(), number, late.piece, late.begin, &answer));
-        }
-        worker.heard_at = now;
+        heard_at = is_late ? now : heard_at;
     }
 }
