@@ -22,6 +22,10 @@ auto constexpr Deepest = uint32_t{ 2000U };
 auto constexpr LateMsec = uint64_t{ 10000U };
 auto constexpr LookMsec = uint64_t{ 1000U };
 
+// once there is nothing else left to ask for, requests are shared out anew so often, and a peer has a few at least
+auto constexpr ShareMsec = uint64_t{ 250U };
+auto constexpr LeastShare = uint32_t{ 4U };
+
 // a priority is one more or less than the normal level
 auto constexpr NormalLevel = uint8_t{ 4U };
 
@@ -148,7 +152,9 @@ void PiecePick::join(tr_peer& peer)
     call(piecepick_join, worker);
     if (serves_)
     {
+        piecepick_options const options = PIECEPICK_OPTIONS;
         workers_[worker].peer = &peer;
+        piecepick_depth_by_rate_begin(&workers_[worker].by_rate, &options, tr_time_msec());
         show(worker);
     }
 }
@@ -200,6 +206,7 @@ void PiecePick::told(tr_peer& peer, tr_peer_event const& event)
     case Type::ClientGotBlock:
         came(worker, event.pieceIndex, event.offset, event.length);
         workers_[worker].heard_at = tr_time_msec();
+        piecepick_depth_by_rate_came(&workers_[worker].by_rate, event.length, tr_time_msec());
         break;
     default:
         return;
@@ -245,11 +252,15 @@ std::optional<std::vector<tr_block_span_t>> PiecePick::next(size_t n_wanted_bloc
     }
 
     auto& worker = workers_[asked_];
+    auto const n_active = call<uint32_t>(piecepick_outstanding, asked_);
+    if (n_active < piecepick_depth_by_rate_follow(&worker.by_rate, now))
+    {
+        share(now);
+    }
     if (worker.idle_at == call<uint64_t>(piecepick_epoch))
     {
         return std::vector<tr_block_span_t>{};
     }
-    auto const n_active = call<uint32_t>(piecepick_outstanding, asked_);
     if (n_active == 0U)
     {
         worker.heard_at = now;
@@ -264,6 +275,7 @@ std::vector<tr_block_span_t> PiecePick::ask(uint32_t worker, size_t n_wanted_blo
 {
     auto spans = std::vector<tr_block_span_t>{};
     auto* const peer = workers_[worker].peer;
+    is_ending_ = false;
     while (n_wanted_blocks > 0U)
     {
         auto const answer = call(piecepick_next, worker, salter_());
@@ -275,6 +287,7 @@ std::vector<tr_block_span_t> PiecePick::ask(uint32_t worker, size_t n_wanted_blo
         else if (answer.kind != PIECEPICK_K_REQUEST)
         {
             workers_[worker].idle_at = call<uint64_t>(piecepick_epoch);
+            is_ending_ = is_ending_ || answer.kind == PIECEPICK_K_IDLE;
             break;
         }
         else if (!peer->active_requests.test(block)) // else it was in flight before the picker was
@@ -285,9 +298,46 @@ std::vector<tr_block_span_t> PiecePick::ask(uint32_t worker, size_t n_wanted_blo
                 spans.push_back({ block, block });
             }
             ++spans.back().end;
+            auto const rule = call<uint32_t>(piecepick_rule, answer.piece, answer.begin / tr_block_info::BlockSize);
+            if (rule >= PIECEPICK_RULE_ENDGAME)
+            {
+                is_ending_ = true;
+                auto const depth = rule == PIECEPICK_RULE_LATE ? workers_[worker].fair_share : LeastShare;
+                call(piecepick_depth, worker, std::max(depth, LeastShare));
+            }
         }
     }
     return spans;
+}
+
+// Each peer keeps as many requests as it will have sent when all could be there. The rest is told late, so that a peer which has
+// nothing else to send may be asked for it. Cancels come too late for most of it, since seeders hold long queues behind them.
+void PiecePick::share(uint64_t now)
+{
+    if (!is_ending_ || now - shared_at_ < ShareMsec)
+    {
+        return;
+    }
+
+    shared_at_ = now;
+    auto rate = uint64_t{ 1U };
+    for (auto& worker : workers_)
+    {
+        piecepick_depth_by_rate_turn(&worker.by_rate, now);
+        worker.fair_share = piecepick_depth_by_rate_blocks(&worker.by_rate, 8U);
+        rate += worker.fair_share;
+    }
+    auto const n_missing = tor_.left_until_done() / tr_block_info::BlockSize + 1U;
+    for (uint32_t worker = 0U; worker < std::size(workers_); ++worker)
+    {
+        auto& fair_share = workers_[worker].fair_share;
+        fair_share = std::min(uint64_t{ fair_share } * n_missing / rate + 1U, uint64_t{ Deepest });
+        auto const requests = in_flight(worker);
+        for (size_t place = fair_share + fair_share / 4U + LeastShare; place < std::size(requests); ++place)
+        {
+            call(piecepick_late, worker, requests[place].piece, requests[place].begin);
+        }
+    }
 }
 
 // Which requests take too long; and which weren't sent, since a web seed sends less than was chosen.
@@ -301,11 +351,11 @@ void PiecePick::look_over(uint64_t now)
     looked_at_ = now;
     for (uint32_t worker = 0U; worker < std::size(workers_); ++worker)
     {
-        auto& [peer, heard_at, idle_at] = workers_[worker];
+        auto& heard_at = workers_[worker].heard_at;
         auto const is_late = now - heard_at >= LateMsec;
         for (auto const& request : in_flight(worker))
         {
-            auto const is_sent = peer->active_requests.test(tor_.piece_loc(request.piece, request.begin).block);
+            auto const is_sent = workers_[worker].peer->active_requests.test(tor_.piece_loc(request.piece, request.begin).block);
             if (!is_sent || is_late)
             {
                 call(is_sent ? piecepick_late : piecepick_release, worker, request.piece, request.begin);

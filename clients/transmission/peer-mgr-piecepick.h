@@ -48,6 +48,8 @@ private:
         tr_peer* peer = nullptr;
         uint64_t heard_at = 0U; // msec: when it sent a block, or was asked with none in flight
         std::optional<uint64_t> idle_at; // the epoch in which there was nothing to ask for
+        piecepick_depth_by_rate by_rate = {};
+        uint32_t fair_share = 0U; // of the missing blocks, by its rate among the others
     };
 
     template<typename T = piecepick_answer, typename Function, typename... Args>
@@ -69,6 +71,7 @@ private:
     piecepick_answer came(uint32_t worker, uint32_t piece, uint32_t begin, uint32_t length);
     void verdict(tr_piece_index_t piece, bool passed);
     void look_over(uint64_t now);
+    void share(uint64_t now);
 
     tr_torrent& tor_;
     std::unique_ptr<piecepick_picker, void (*)(piecepick_picker*)> picker_;
@@ -76,6 +79,8 @@ private:
     tr_salt_shaker<uint64_t, 64U> salter_;
     uint32_t asked_ = 0U;
     uint64_t looked_at_ = 0U;
+    uint64_t shared_at_ = 0U;
+    bool is_ending_ = false; // a peer had nothing left to be asked for that others aren't asked for
     bool serves_ = false;
     std::array<libtransmission::ObserverTag, 4U> tags_;
 };
