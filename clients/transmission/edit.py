@@ -54,30 +54,14 @@ WISHLIST = f"{LIBRARY}/peer-mgr-wishlist"
 MANAGER = f"{LIBRARY}/peer-mgr.cc"
 MESSAGES = f"{LIBRARY}/peer-msgs.cc"
 BUILD = f"{LIBRARY}/CMakeLists.txt"
-FIRST = """\
-    PiecePick& ask_first(tr_torrent& tor, std::vector<tr_peerMsgs*> const& peers)
-    {
-        if (!piecepick)
-        {
-            piecepick = std::make_unique<PiecePick>(tor, peers);
-        }
-        return *piecepick;
-    }
-
-    std::unique_ptr<PiecePick> piecepick;
-"""
 ASK = """\
-    if (piecepick)
+    if (auto spans = piecepick.next(n_wanted_blocks))
     {
-        if (auto spans = piecepick->next(n_wanted_blocks))
-        {
-            return *std::move(spans);
-        }
+        return *std::move(spans);
     }
 """
 UNWANTED = """\
-// What follows a block that nobody waits for, as one that was cancelled and comes all the same.
-// At Err the bytes behind it stay unread until more of them come.
+// what follows a block that nobody waits for: at Err the bytes behind it stay unread until more of them come
 #ifdef WITH_PIECEPICK
 inline auto constexpr AfterUnwanted = ReadState::Now;
 #else
@@ -95,7 +79,7 @@ EDITS = (
     before(BUILD, r"<STREQUAL:\$\{CRYPTO_PKG\},ccrypto>", "        $<$<BOOL:${ENABLE_PIECEPICK}>:WITH_PIECEPICK>\n"),
     before(BUILD, r" transmission::crypto_impl", "        $<$<BOOL:${ENABLE_PIECEPICK}>:piecepick::piecepick>\n"),
     behind(f"{WISHLIST}.h", r"libtransmission/observable\.h", '#include "libtransmission/peer-mgr-piecepick.h"\n'),
-    before(f"{WISHLIST}.h", r"private:\n +class Impl;", guarded(FIRST) + "\n"),
+    before(f"{WISHLIST}.h", r"private:\n +class Impl;", guarded("    PiecePick piecepick;\n")),
     before(f"{WISHLIST}.cc", r"return impl_->next\(", guarded(ASK)),
     fills(MANAGER, r"void remove_peer\(tr_peerMsgs", "        tr_piecepick_left(wishlist, *peer);\n"),
     fills(MANAGER, r"msgs->swarm == s\)", "        tr_piecepick_told(s->wishlist, *msgs, event);\n"),

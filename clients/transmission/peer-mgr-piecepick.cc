@@ -6,107 +6,84 @@
 
 #include <algorithm>
 
-#include "libtransmission/block-info.h"
-#include "libtransmission/values.h" // before peer-common.h, which needs it
-#include "libtransmission/peer-common.h"
+#include "libtransmission/torrent.h" // before peer-msgs.h, which needs more than it includes
 #include "libtransmission/peer-msgs.h"
-#include "libtransmission/torrent.h"
 #include "libtransmission/utils.h" // tr_time_msec
 
 namespace
 {
-// the most requests that are in flight at a peer
-auto constexpr Deepest = uint32_t{ 2000U };
-
-// a peer with requests in flight that sends no block for so long is late with them, which is looked after once in a while
-auto constexpr LateMsec = uint64_t{ 10000U };
-auto constexpr LookMsec = uint64_t{ 1000U };
-
-// once there is nothing else left to ask for, requests are shared out anew so often, and a peer has a few at least
-auto constexpr ShareMsec = uint64_t{ 250U };
+auto constexpr BlockSize = tr_block_info::BlockSize;
+auto constexpr MostPeers = size_t{ 1023U }; // besides the disk
+auto constexpr NormalLevel = uint8_t{ 4U }; // a priority is one more or less
+auto constexpr EdgeLevel = uint8_t{ 6U }; // of the first piece and the last one in order, where a player looks first
 auto constexpr LeastShare = uint32_t{ 4U };
 
-// a priority is one more or less than the normal level
-auto constexpr NormalLevel = uint8_t{ 4U };
+auto constexpr LateMsec = uint64_t{ 10000U }; // a peer that sends no block for so long is late with all requests
+auto constexpr LookMsec = uint64_t{ 1000U };
+auto constexpr ShareMsec = uint64_t{ 250U };
 
-// in order the first piece and the last one come before all others, so that a player finds what it looks for
-auto constexpr EdgeLevel = uint8_t{ 6U };
-
-// the library has 1,024 workers at most, of which one is the disk
-auto constexpr MostPeers = size_t{ 1023U };
-} // namespace
-
-PiecePick::PiecePick(tr_torrent& tor, std::vector<tr_peerMsgs*> const& peers)
-    : tor_{ tor }
-    , picker_{ nullptr, [](piecepick_picker* picker) { piecepick_close(&picker); } }
-    , workers_(std::min(tor.peer_limit() + tor.webseed_count(), MostPeers))
-    , tags_{ { tor.got_bad_piece_.observe([this](tr_torrent*, tr_piece_index_t piece) { verdict(piece, false); }),
-               tor.piece_completed_.observe([this](tr_torrent*, tr_piece_index_t piece) { verdict(piece, true); }),
-               tor.priority_changed_.observe([this](tr_torrent*, tr_file_index_t const*, tr_file_index_t, tr_priority_t)
-                                             { set_levels(); }),
-               tor.sequential_download_changed_.observe([this](tr_torrent*, bool) { set_levels(); }) } }
+piecepick_options options_for(size_t n_peers)
 {
-    open();
-    restore();
-    set_levels();
-    std::for_each(std::begin(peers), std::end(peers), [this](auto* peer) { join(*peer); });
-}
-
-void PiecePick::open()
-{
-    auto digests = std::vector<tr_sha1_digest_t>{};
-    for (tr_piece_index_t piece = 0U; piece < tor_.piece_count(); ++piece)
-    {
-        digests.push_back(tor_.piece_hash(piece));
-    }
-
     piecepick_options options = PIECEPICK_OPTIONS;
-    options.workers = std::size(workers_) + 1U;
-    options.deepest = Deepest;
-    piecepick_picker* picker = nullptr;
-    auto const* const data = reinterpret_cast<uint8_t const*>(std::data(digests));
-    auto const size = std::size(digests) * sizeof(tr_sha1_digest_t);
-    auto const status = piecepick_open_parts(&picker, tor_.piece_size(), tor_.total_size(), data, size, &options);
-    picker_.reset(picker);
-
-    // elsewhere blocks cross the borders of pieces
-    serves_ = status == PIECEPICK_OK && tor_.piece_size() % tr_block_info::BlockSize == 0U;
+    options.workers = n_peers + 1U;
+    options.deepest = 2000U;
+    return options;
 }
+} // namespace
 
 // Where there is no such peer, it is the number of the disk.
 uint32_t PiecePick::find(tr_peer const* peer) const
 {
-    auto const is_it = [peer](Worker const& worker)
-    {
-        return worker.peer == peer;
-    };
-    return std::distance(std::begin(workers_), std::find_if(std::begin(workers_), std::end(workers_), is_it));
+    auto const it = std::find_if(std::begin(workers_), std::end(workers_), [peer](auto const& w) { return w.peer == peer; });
+    return std::distance(std::begin(workers_), it);
 }
 
-std::vector<piecepick_answer> PiecePick::in_flight(uint32_t worker)
+bool PiecePick::is_active(uint32_t worker, piecepick_answer const& request) const
 {
-    auto requests = std::vector<piecepick_answer>(call<uint32_t>(piecepick_outstanding, worker));
-    for (uint32_t place = 0U; place < std::size(requests); ++place)
-    {
-        requests[place] = call(piecepick_outstanding_at, worker, place);
-    }
-    return requests;
+    return workers_[worker].peer->active_requests.test(tor_->piece_loc(request.piece, request.begin).block);
 }
 
 // --- what the disk has, and what is wanted
+
+void PiecePick::open(tr_torrent& tor)
+{
+    tor_ = &tor;
+    workers_.resize(std::min(tor.peer_limit() + tor.webseed_count(), MostPeers));
+    auto digests = std::vector<tr_sha1_digest_t>{};
+    for (tr_piece_index_t piece = 0U; piece < tor.piece_count(); ++piece)
+    {
+        digests.push_back(tor.piece_hash(piece));
+    }
+
+    auto const options = options_for(std::size(workers_));
+    piecepick_picker* picker = nullptr;
+    auto const* const data = reinterpret_cast<uint8_t const*>(std::data(digests));
+    auto const size = std::size(digests) * sizeof(tr_sha1_digest_t);
+    auto const status = piecepick_open_parts(&picker, tor.piece_size(), tor.total_size(), data, size, &options);
+    picker_ = { picker, [](auto* closed) { piecepick_close(&closed); } };
+
+    // elsewhere blocks cross the borders of pieces
+    serves_ = status == PIECEPICK_OK && tor.piece_size() % BlockSize == 0U;
+    restore();
+    set_levels();
+    tags_ = { tor.got_bad_piece_.observe([this](tr_torrent*, tr_piece_index_t piece) { verdict(piece, false); }),
+              tor.piece_completed_.observe([this](tr_torrent*, tr_piece_index_t piece) { verdict(piece, true); }),
+              tor.priority_changed_.observe([this](auto*, auto const*, auto, auto) { set_levels(); }),
+              tor.sequential_download_changed_.observe([this](tr_torrent*, bool) { set_levels(); }) };
+}
 
 void PiecePick::restore()
 {
     uint32_t const disk = std::size(workers_);
     call(piecepick_join, disk);
-    for (tr_piece_index_t piece = 0U; piece < tor_.piece_count(); ++piece)
+    for (tr_piece_index_t piece = 0U; serves_ && piece < tor_->piece_count(); ++piece)
     {
         auto answer = piecepick_answer{};
-        for (auto [block, end] = tor_.block_span_for_piece(piece); serves_ && block < end; ++block)
+        for (auto [block, end] = tor_->block_span_for_piece(piece); block < end; ++block)
         {
-            if (tor_.has_block(block))
+            if (tor_->has_block(block))
             {
-                answer = came(disk, piece, tor_.block_loc(block).piece_offset, tor_.block_size(block));
+                answer = came(disk, piece, tor_->block_loc(block).piece_offset, tor_->block_size(block));
             }
         }
         if (answer.kind == PIECEPICK_K_COMPLETED)
@@ -117,30 +94,18 @@ void PiecePick::restore()
     call(piecepick_leave, disk);
 }
 
-// What isn't wanted any more is taken back.
 void PiecePick::set_levels()
 {
-    auto levels = std::vector<uint8_t>(tor_.piece_count());
-    auto const is_in_order = tor_.is_sequential_download();
+    auto levels = std::vector<uint8_t>(tor_->piece_count());
+    auto const is_in_order = tor_->is_sequential_download();
     for (tr_piece_index_t piece = 0U; piece < std::size(levels); ++piece)
     {
         auto const is_edge = is_in_order && (piece == 0U || piece + 1U == std::size(levels));
-        auto const level = is_edge ? EdgeLevel : NormalLevel + tor_.piece_priority(piece);
-        levels[piece] = tor_.piece_is_wanted(piece) ? level : 0U;
+        auto const level = is_edge ? EdgeLevel : NormalLevel + tor_->piece_priority(piece);
+        levels[piece] = tor_->piece_is_wanted(piece) ? level : 0U;
     }
     call(piecepick_set_levels, std::data(levels), std::size(levels));
     call(piecepick_set_in_order, is_in_order ? 1U : 0U);
-
-    for (uint32_t worker = 0U; worker < std::size(workers_); ++worker)
-    {
-        for (auto const& request : in_flight(worker))
-        {
-            if (levels[request.piece] == 0U)
-            {
-                workers_[worker].peer->maybe_cancel_block_request(tor_.piece_loc(request.piece, request.begin).block);
-            }
-        }
-    }
 }
 
 // --- what happens at a peer
@@ -152,9 +117,9 @@ void PiecePick::join(tr_peer& peer)
     call(piecepick_join, worker);
     if (serves_)
     {
-        piecepick_options const options = PIECEPICK_OPTIONS;
+        auto const options = options_for(std::size(workers_));
         workers_[worker].peer = &peer;
-        piecepick_depth_by_rate_begin(&workers_[worker].by_rate, &options, tr_time_msec());
+        piecepick_depth_by_rate_begin(&workers_[worker].rate, &options, tr_time_msec());
         show(worker);
     }
 }
@@ -184,9 +149,10 @@ void PiecePick::told(tr_peer& peer, tr_peer_event const& event)
     auto const worker = find(&peer);
     if (worker == std::size(workers_))
     {
-        return peer.has().has_none() ? void() : join(peer);
+        return tor_ == nullptr || peer.has().has_none() ? void() : join(peer);
     }
 
+    workers_[worker].idle_at.reset();
     switch (event.type)
     {
     case Type::ClientGotHave:
@@ -204,14 +170,13 @@ void PiecePick::told(tr_peer& peer, tr_peer_event const& event)
         call(piecepick_release, worker, event.pieceIndex, event.offset);
         break;
     case Type::ClientGotBlock:
-        came(worker, event.pieceIndex, event.offset, event.length);
         workers_[worker].heard_at = tr_time_msec();
-        piecepick_depth_by_rate_came(&workers_[worker].by_rate, event.length, tr_time_msec());
+        piecepick_depth_by_rate_came(&workers_[worker].rate, event.length, workers_[worker].heard_at);
+        came(worker, event.pieceIndex, event.offset, event.length);
         break;
     default:
-        return;
+        break;
     }
-    workers_[worker].idle_at.reset();
 }
 
 // These two stand in for calls without bytes, and with a verdict in place of a digest. The library reads no byte of a block,
@@ -219,13 +184,13 @@ void PiecePick::told(tr_peer& peer, tr_peer_event const& event)
 
 piecepick_answer PiecePick::came(uint32_t worker, uint32_t piece, uint32_t begin, uint32_t length)
 {
-    static auto constexpr Unread = std::array<uint8_t, tr_block_info::BlockSize>{};
+    static auto constexpr Unread = std::array<uint8_t, BlockSize>{};
     return call(piecepick_arrived, worker, piece, begin, std::data(Unread), length);
 }
 
 void PiecePick::verdict(tr_piece_index_t piece, bool passed)
 {
-    auto const hash = passed ? tor_.piece_hash(piece) : tr_sha1_digest_t{};
+    auto const hash = passed ? tor_->piece_hash(piece) : tr_sha1_digest_t{};
     auto digest = piecepick_digest{};
     std::copy_n(reinterpret_cast<uint8_t const*>(std::data(hash)), std::size(hash), digest.bytes);
     call(piecepick_settle, piece, &digest);
@@ -233,8 +198,13 @@ void PiecePick::verdict(tr_piece_index_t piece, bool passed)
 
 // --- what to request
 
-void PiecePick::ask_for(tr_peer const& peer)
+void PiecePick::ask_for(tr_torrent& tor, std::vector<tr_peerMsgs*> const& peers, tr_peer const& peer)
 {
+    if (tor_ == nullptr)
+    {
+        open(tor);
+        std::for_each(std::begin(peers), std::end(peers), [this](auto* other) { join(*other); });
+    }
     if (find(&peer) == std::size(workers_))
     {
         join(const_cast<tr_peer&>(peer));
@@ -242,125 +212,95 @@ void PiecePick::ask_for(tr_peer const& peer)
     asked_ = find(&peer);
 }
 
+// Blocks are requested in the order in which they are chosen, and neighbours as one span.
 std::optional<std::vector<tr_block_span_t>> PiecePick::next(size_t n_wanted_blocks)
 {
-    auto const now = tr_time_msec();
-    look_over(now);
     if (!serves_)
     {
         return {};
     }
 
-    auto& worker = workers_[asked_];
-    auto const n_active = call<uint32_t>(piecepick_outstanding, asked_);
-    if (n_active < piecepick_depth_by_rate_follow(&worker.by_rate, now))
-    {
-        share(now);
-    }
-    if (worker.idle_at == call<uint64_t>(piecepick_epoch))
-    {
-        return std::vector<tr_block_span_t>{};
-    }
-    if (n_active == 0U)
-    {
-        worker.heard_at = now;
-    }
-    call(piecepick_unchoke, asked_);
-    call(piecepick_depth, asked_, std::min(n_active + uint32_t(n_wanted_blocks), Deepest));
-    return ask(asked_, n_wanted_blocks);
-}
-
-// Blocks are requested in the order in which they are chosen, and neighbours as one span.
-std::vector<tr_block_span_t> PiecePick::ask(uint32_t worker, size_t n_wanted_blocks)
-{
     auto spans = std::vector<tr_block_span_t>{};
-    auto* const peer = workers_[worker].peer;
+    auto& worker = workers_[asked_];
+    auto const now = tr_time_msec();
+    auto const n_active = call<uint32_t>(piecepick_outstanding, asked_);
+    worker.heard_at = n_active == 0U ? now : worker.heard_at;
+    look_over(now, is_ending_ && n_active < piecepick_depth_by_rate_follow(&worker.rate, now));
+    call(piecepick_unchoke, asked_);
+    call(piecepick_depth, asked_, std::min(n_active + uint32_t(n_wanted_blocks), worker.rate.deepest));
     is_ending_ = false;
-    while (n_wanted_blocks > 0U)
+    while (std::size(spans) < n_wanted_blocks && worker.idle_at != call<uint64_t>(piecepick_epoch))
     {
-        auto const answer = call(piecepick_next, worker, salter_());
-        auto const block = tor_.piece_loc(answer.piece, answer.begin).block;
+        auto const answer = call(piecepick_next, asked_, salter_());
+        auto const block = tor_->piece_loc(answer.piece, answer.begin).block;
         if (answer.kind == PIECEPICK_K_CANCEL)
         {
-            peer->maybe_cancel_block_request(block);
+            worker.peer->maybe_cancel_block_request(block);
         }
         else if (answer.kind != PIECEPICK_K_REQUEST)
         {
-            workers_[worker].idle_at = call<uint64_t>(piecepick_epoch);
+            worker.idle_at = call<uint64_t>(piecepick_epoch);
             is_ending_ = is_ending_ || answer.kind == PIECEPICK_K_IDLE;
-            break;
         }
-        else if (!peer->active_requests.test(block)) // else it was in flight before the picker was
+        else if (!is_active(asked_, answer)) // else it was in flight before the picker was
         {
-            --n_wanted_blocks;
-            if (std::empty(spans) || spans.back().end != block)
-            {
-                spans.push_back({ block, block });
-            }
-            ++spans.back().end;
-            auto const rule = call<uint32_t>(piecepick_rule, answer.piece, answer.begin / tr_block_info::BlockSize);
+            spans.push_back({ block, block + 1U });
+            auto const rule = call<uint32_t>(piecepick_rule, answer.piece, answer.begin / BlockSize);
             if (rule >= PIECEPICK_RULE_ENDGAME)
             {
                 is_ending_ = true;
-                auto const depth = rule == PIECEPICK_RULE_LATE ? workers_[worker].fair_share : LeastShare;
-                call(piecepick_depth, worker, std::max(depth, LeastShare));
+                auto const depth = rule == PIECEPICK_RULE_LATE ? worker.fair_share : LeastShare;
+                call(piecepick_depth, asked_, std::max(depth, LeastShare));
             }
         }
     }
     return spans;
 }
 
-// Each peer keeps as many requests as it will have sent when all could be there. The rest is told late, so that a peer which has
-// nothing else to send may be asked for it. Cancels come too late for most of it, since seeders hold long queues behind them.
-void PiecePick::share(uint64_t now)
+// Once nothing else is left to ask for, a peer keeps what it will have sent when all could be there. Cancels would come too late
+// for the rest, since seeders hold long queues. So it is told late, and one that has nothing else to send may be asked for it.
+void PiecePick::share_out(uint64_t now)
 {
-    if (!is_ending_ || now - shared_at_ < ShareMsec)
-    {
-        return;
-    }
-
-    shared_at_ = now;
-    auto rate = uint64_t{ 1U };
+    auto all = uint64_t{ 1U };
     for (auto& worker : workers_)
     {
-        piecepick_depth_by_rate_turn(&worker.by_rate, now);
-        worker.fair_share = piecepick_depth_by_rate_blocks(&worker.by_rate, 8U);
-        rate += worker.fair_share;
+        piecepick_depth_by_rate_turn(&worker.rate, now);
+        worker.fair_share = piecepick_depth_by_rate_blocks(&worker.rate, 8U);
+        all += worker.fair_share;
     }
-    auto const n_missing = tor_.left_until_done() / tr_block_info::BlockSize + 1U;
-    for (uint32_t worker = 0U; worker < std::size(workers_); ++worker)
+    auto const n_missing = tor_->left_until_done() / BlockSize + 1U;
+    for (auto& worker : workers_)
     {
-        auto& fair_share = workers_[worker].fair_share;
-        fair_share = std::min(uint64_t{ fair_share } * n_missing / rate + 1U, uint64_t{ Deepest });
-        auto const requests = in_flight(worker);
-        for (size_t place = fair_share + fair_share / 4U + LeastShare; place < std::size(requests); ++place)
-        {
-            call(piecepick_late, worker, requests[place].piece, requests[place].begin);
-        }
+        worker.fair_share = std::min(worker.fair_share * n_missing / all + 1U, uint64_t{ worker.rate.deepest });
     }
 }
 
-// Which requests take too long; and which weren't sent, since a web seed sends less than was chosen.
-void PiecePick::look_over(uint64_t now)
+// Which requests are late; and which weren't sent, since a web seed sends less than was chosen.
+void PiecePick::look_over(uint64_t now, bool shares)
 {
-    if (now - looked_at_ < LookMsec)
+    if (now - looked_at_ < (shares ? ShareMsec : LookMsec))
     {
         return;
     }
 
     looked_at_ = now;
-    for (uint32_t worker = 0U; worker < std::size(workers_); ++worker)
+    share_out(now);
+    for (uint32_t number = 0U; number < std::size(workers_); ++number)
     {
-        auto& heard_at = workers_[worker].heard_at;
-        auto const is_late = now - heard_at >= LateMsec;
-        for (auto const& request : in_flight(worker))
+        auto const& worker = workers_[number];
+        auto const is_silent = now - worker.heard_at >= LateMsec;
+        auto const keeps = shares ? worker.fair_share + worker.fair_share / 4U + LeastShare : worker.rate.deepest;
+        for (auto place = call<uint32_t>(piecepick_outstanding, number); place > 0U; --place)
         {
-            auto const is_sent = workers_[worker].peer->active_requests.test(tor_.piece_loc(request.piece, request.begin).block);
-            if (!is_sent || is_late)
+            auto const request = call(piecepick_outstanding_at, number, place - 1U);
+            if (!is_active(number, request))
             {
-                call(is_sent ? piecepick_late : piecepick_release, worker, request.piece, request.begin);
+                call(piecepick_release, number, request.piece, request.begin);
+            }
+            else if (is_silent || place > keeps)
+            {
+                call(piecepick_late, number, request.piece, request.begin);
             }
         }
-        heard_at = is_late ? now : heard_at;
     }
 }
