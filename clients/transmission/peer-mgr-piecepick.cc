@@ -13,22 +13,13 @@
 namespace
 {
 auto constexpr BlockSize = tr_block_info::BlockSize;
+auto constexpr Deepest = uint32_t{ 2000U }; // requests in flight at a peer
 auto constexpr MostPeers = size_t{ 1023U }; // besides the disk
 auto constexpr NormalLevel = uint8_t{ 4U }; // a priority is one more or less
-auto constexpr EdgeLevel = uint8_t{ 6U }; // of the first piece and the last one in order, where a player looks first
 auto constexpr LeastShare = uint32_t{ 4U };
-
 auto constexpr LateMsec = uint64_t{ 10000U }; // a peer that sends no block for so long is late with all requests
 auto constexpr LookMsec = uint64_t{ 1000U };
 auto constexpr ShareMsec = uint64_t{ 250U };
-
-piecepick_options options_for(size_t n_peers)
-{
-    piecepick_options options = PIECEPICK_OPTIONS;
-    options.workers = n_peers + 1U;
-    options.deepest = 2000U;
-    return options;
-}
 } // namespace
 
 // Where there is no such peer, it is the number of the disk.
@@ -43,8 +34,6 @@ bool PiecePick::is_active(uint32_t worker, piecepick_answer const& request) cons
     return workers_[worker].peer->active_requests.test(tor_->piece_loc(request.piece, request.begin).block);
 }
 
-// --- what the disk has, and what is wanted
-
 void PiecePick::open(tr_torrent& tor)
 {
     tor_ = &tor;
@@ -54,16 +43,14 @@ void PiecePick::open(tr_torrent& tor)
     {
         digests.push_back(tor.piece_hash(piece));
     }
-
-    auto const options = options_for(std::size(workers_));
+    options_.workers = std::size(workers_) + 1U;
+    options_.deepest = Deepest;
     piecepick_picker* picker = nullptr;
     auto const* const data = reinterpret_cast<uint8_t const*>(std::data(digests));
     auto const size = std::size(digests) * sizeof(tr_sha1_digest_t);
-    auto const status = piecepick_open_parts(&picker, tor.piece_size(), tor.total_size(), data, size, &options);
-    picker_ = { picker, [](auto* closed) { piecepick_close(&closed); } };
-
-    // elsewhere blocks cross the borders of pieces
-    serves_ = status == PIECEPICK_OK && tor.piece_size() % BlockSize == 0U;
+    serves_ = piecepick_open_parts(&picker, tor.piece_size(), tor.total_size(), data, size, &options_) == PIECEPICK_OK;
+    picker_.reset(picker, [](auto* closed) { piecepick_close(&closed); });
+    serves_ = serves_ && tor.piece_size() % BlockSize == 0U; // else blocks cross the borders of pieces
     restore();
     set_levels();
     tags_ = { tor.got_bad_piece_.observe([this](tr_torrent*, tr_piece_index_t piece) { verdict(piece, false); }),
@@ -76,19 +63,13 @@ void PiecePick::restore()
 {
     uint32_t const disk = std::size(workers_);
     call(piecepick_join, disk);
-    for (tr_piece_index_t piece = 0U; serves_ && piece < tor_->piece_count(); ++piece)
+    for (tr_block_index_t block = 0U; block < tor_->block_count(); ++block)
     {
-        auto answer = piecepick_answer{};
-        for (auto [block, end] = tor_->block_span_for_piece(piece); block < end; ++block)
+        auto const loc = tor_->block_loc(block);
+        auto const kind = tor_->has_block(block) ? came(disk, loc.piece, loc.piece_offset, tor_->block_size(block)).kind : 0;
+        if (kind == PIECEPICK_K_COMPLETED)
         {
-            if (tor_->has_block(block))
-            {
-                answer = came(disk, piece, tor_->block_loc(block).piece_offset, tor_->block_size(block));
-            }
-        }
-        if (answer.kind == PIECEPICK_K_COMPLETED)
-        {
-            verdict(piece, true);
+            verdict(loc.piece, true);
         }
     }
     call(piecepick_leave, disk);
@@ -100,9 +81,8 @@ void PiecePick::set_levels()
     auto const is_in_order = tor_->is_sequential_download();
     for (tr_piece_index_t piece = 0U; piece < std::size(levels); ++piece)
     {
-        auto const is_edge = is_in_order && (piece == 0U || piece + 1U == std::size(levels));
-        auto const level = is_edge ? EdgeLevel : NormalLevel + tor_->piece_priority(piece);
-        levels[piece] = tor_->piece_is_wanted(piece) ? level : 0U;
+        auto const is_edge = is_in_order && (piece == 0U || piece + 1U == std::size(levels)); // where a player looks first
+        levels[piece] = tor_->piece_is_wanted(piece) ? NormalLevel + tor_->piece_priority(piece) + (is_edge ? 2U : 0U) : 0U;
     }
     call(piecepick_set_levels, std::data(levels), std::size(levels));
     call(piecepick_set_in_order, is_in_order ? 1U : 0U);
@@ -117,20 +97,20 @@ void PiecePick::join(tr_peer& peer)
     call(piecepick_join, worker);
     if (serves_)
     {
-        auto const options = options_for(std::size(workers_));
         workers_[worker].peer = &peer;
-        piecepick_depth_by_rate_begin(&workers_[worker].rate, &options, tr_time_msec());
+        piecepick_depth_by_rate_begin(&workers_[worker].rate, &options_, tr_time_msec());
         show(worker);
     }
 }
 
 void PiecePick::show(uint32_t worker)
 {
-    if (auto const& has = workers_[worker].peer->has(); !has.has_none())
+    auto flags = std::vector<uint8_t>((tor_->piece_count() + 7U) / 8U);
+    for (tr_piece_index_t piece = 0U; piece < tor_->piece_count(); ++piece)
     {
-        auto const flags = has.raw();
-        call(piecepick_haves, worker, std::data(flags), std::size(flags));
+        flags[piece / 8U] |= workers_[worker].peer->has_piece(piece) ? 0x80U >> piece % 8U : 0U;
     }
+    call(piecepick_haves, worker, std::data(flags), std::size(flags));
 }
 
 void PiecePick::left(tr_peer const& peer)
@@ -145,13 +125,11 @@ void PiecePick::left(tr_peer const& peer)
 void PiecePick::told(tr_peer& peer, tr_peer_event const& event)
 {
     using Type = tr_peer_event::Type;
-
     auto const worker = find(&peer);
     if (worker == std::size(workers_))
     {
         return tor_ == nullptr || peer.has().has_none() ? void() : join(peer);
     }
-
     workers_[worker].idle_at.reset();
     switch (event.type)
     {
@@ -179,9 +157,7 @@ void PiecePick::told(tr_peer& peer, tr_peer_event const& event)
     }
 }
 
-// These two stand in for calls without bytes, and with a verdict in place of a digest. The library reads no byte of a block,
-// and a piece that has passed its check has the digest of the torrent.
-
+// These two stand in for calls without bytes, and with a verdict in place of a digest. The library reads no byte of a block.
 piecepick_answer PiecePick::came(uint32_t worker, uint32_t piece, uint32_t begin, uint32_t length)
 {
     static auto constexpr Unread = std::array<uint8_t, BlockSize>{};
@@ -219,7 +195,6 @@ std::optional<std::vector<tr_block_span_t>> PiecePick::next(size_t n_wanted_bloc
     {
         return {};
     }
-
     auto spans = std::vector<tr_block_span_t>{};
     auto& worker = workers_[asked_];
     auto const now = tr_time_msec();
@@ -227,7 +202,7 @@ std::optional<std::vector<tr_block_span_t>> PiecePick::next(size_t n_wanted_bloc
     worker.heard_at = n_active == 0U ? now : worker.heard_at;
     look_over(now, is_ending_ && n_active < piecepick_depth_by_rate_follow(&worker.rate, now));
     call(piecepick_unchoke, asked_);
-    call(piecepick_depth, asked_, std::min(n_active + uint32_t(n_wanted_blocks), worker.rate.deepest));
+    call(piecepick_depth, asked_, std::min(n_active + uint32_t(n_wanted_blocks), Deepest));
     is_ending_ = false;
     while (std::size(spans) < n_wanted_blocks && worker.idle_at != call<uint64_t>(piecepick_epoch))
     {
@@ -249,8 +224,7 @@ std::optional<std::vector<tr_block_span_t>> PiecePick::next(size_t n_wanted_bloc
             if (rule >= PIECEPICK_RULE_ENDGAME)
             {
                 is_ending_ = true;
-                auto const depth = rule == PIECEPICK_RULE_LATE ? worker.fair_share : LeastShare;
-                call(piecepick_depth, asked_, std::max(depth, LeastShare));
+                call(piecepick_depth, asked_, rule == PIECEPICK_RULE_LATE ? worker.fair_share : LeastShare);
             }
         }
     }
@@ -271,7 +245,7 @@ void PiecePick::share_out(uint64_t now)
     auto const n_missing = tor_->left_until_done() / BlockSize + 1U;
     for (auto& worker : workers_)
     {
-        worker.fair_share = std::min(worker.fair_share * n_missing / all + 1U, uint64_t{ worker.rate.deepest });
+        worker.fair_share = std::min<uint64_t>(worker.fair_share * n_missing / all + LeastShare, Deepest);
     }
 }
 
@@ -282,14 +256,13 @@ void PiecePick::look_over(uint64_t now, bool shares)
     {
         return;
     }
-
     looked_at_ = now;
     share_out(now);
     for (uint32_t number = 0U; number < std::size(workers_); ++number)
     {
         auto const& worker = workers_[number];
         auto const is_silent = now - worker.heard_at >= LateMsec;
-        auto const keeps = shares ? worker.fair_share + worker.fair_share / 4U + LeastShare : worker.rate.deepest;
+        auto const keeps = shares ? worker.fair_share + worker.fair_share / 4U : Deepest;
         for (auto place = call<uint32_t>(piecepick_outstanding, number); place > 0U; --place)
         {
             auto const request = call(piecepick_outstanding_at, number, place - 1U);

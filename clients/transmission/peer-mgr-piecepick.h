@@ -5,8 +5,6 @@
 
 #ifdef WITH_PIECEPICK
 #include <array>
-#include <cstddef> // size_t
-#include <cstdint> // uint32_t, uint64_t
 #include <memory>
 #include <optional>
 #include <vector>
@@ -31,7 +29,6 @@ public:
 
     // the next blocks to request from that peer, or nothing where the library can't serve
     [[nodiscard]] std::optional<std::vector<tr_block_span_t>> next(size_t n_wanted_blocks);
-
     void told(tr_peer& peer, tr_peer_event const& event);
     void left(tr_peer const& peer);
 
@@ -53,7 +50,6 @@ private:
         serves_ = serves_ && function(picker_.get(), args..., &answer) == PIECEPICK_OK;
         return answer;
     }
-
     [[nodiscard]] uint32_t find(tr_peer const* peer) const;
     [[nodiscard]] bool is_active(uint32_t worker, piecepick_answer const& request) const;
     void open(tr_torrent& tor);
@@ -65,9 +61,9 @@ private:
     void verdict(tr_piece_index_t piece, bool passed);
     void look_over(uint64_t now, bool shares);
     void share_out(uint64_t now);
-
     tr_torrent* tor_ = nullptr;
-    std::unique_ptr<piecepick_picker, void (*)(piecepick_picker*)> picker_{ nullptr, nullptr };
+    std::shared_ptr<piecepick_picker> picker_;
+    piecepick_options options_ = PIECEPICK_OPTIONS;
     std::vector<Worker> workers_;
     tr_salt_shaker<uint64_t, 64U> salter_;
     uint32_t asked_ = 0U;
