@@ -14,12 +14,10 @@ namespace
 {
 auto constexpr BlockSize = tr_block_info::BlockSize;
 auto constexpr Deepest = uint32_t{ 2000U }; // requests in flight at a peer
-auto constexpr MostPeers = size_t{ 1023U }; // besides the disk
-auto constexpr NormalLevel = uint8_t{ 4U }; // a priority is one more or less
 auto constexpr LeastShare = uint32_t{ 4U };
 auto constexpr LateMsec = uint64_t{ 10000U }; // a peer that sends no block for so long is late with all requests
+auto constexpr RampMsec = uint64_t{ 5000U }; // so long a peer has all requests that are wanted, and then some for 1.5 seconds
 auto constexpr LookMsec = uint64_t{ 1000U };
-auto constexpr ShareMsec = uint64_t{ 250U };
 } // namespace
 
 // Where there is no such peer, it is the number of the disk.
@@ -37,7 +35,7 @@ bool PiecePick::is_active(uint32_t worker, piecepick_answer const& request) cons
 void PiecePick::open(tr_torrent& tor)
 {
     tor_ = &tor;
-    workers_.resize(std::min(tor.peer_limit() + tor.webseed_count(), MostPeers));
+    workers_.resize(std::min(tor.peer_limit() + tor.webseed_count(), size_t{ 1023U })); // 1,024 with the disk
     auto digests = std::vector<tr_sha1_digest_t>{};
     for (tr_piece_index_t piece = 0U; piece < tor.piece_count(); ++piece)
     {
@@ -82,13 +80,11 @@ void PiecePick::set_levels()
     for (tr_piece_index_t piece = 0U; piece < std::size(levels); ++piece)
     {
         auto const is_edge = is_in_order && (piece == 0U || piece + 1U == std::size(levels)); // where a player looks first
-        levels[piece] = tor_->piece_is_wanted(piece) ? NormalLevel + tor_->piece_priority(piece) + (is_edge ? 2U : 0U) : 0U;
+        levels[piece] = tor_->piece_is_wanted(piece) ? 4U + tor_->piece_priority(piece) + (is_edge ? 2U : 0U) : 0U;
     }
     call(piecepick_set_levels, std::data(levels), std::size(levels));
     call(piecepick_set_in_order, is_in_order ? 1U : 0U);
 }
-
-// --- what happens at a peer
 
 void PiecePick::join(tr_peer& peer)
 {
@@ -172,8 +168,6 @@ void PiecePick::verdict(tr_piece_index_t piece, bool passed)
     call(piecepick_settle, piece, &digest);
 }
 
-// --- what to request
-
 void PiecePick::ask_for(tr_torrent& tor, std::vector<tr_peerMsgs*> const& peers, tr_peer const& peer)
 {
     if (tor_ == nullptr)
@@ -188,22 +182,29 @@ void PiecePick::ask_for(tr_torrent& tor, std::vector<tr_peerMsgs*> const& peers,
     asked_ = find(&peer);
 }
 
-// Blocks are requested in the order in which they are chosen, and neighbours as one span.
 std::optional<std::vector<tr_block_span_t>> PiecePick::next(size_t n_wanted_blocks)
 {
     if (!serves_)
     {
         return {};
     }
-    auto spans = std::vector<tr_block_span_t>{};
     auto& worker = workers_[asked_];
     auto const now = tr_time_msec();
     auto const n_active = call<uint32_t>(piecepick_outstanding, asked_);
     worker.heard_at = n_active == 0U ? now : worker.heard_at;
-    look_over(now, is_ending_ && n_active < piecepick_depth_by_rate_follow(&worker.rate, now));
+    worker.rate.begin = worker.rate.is_begun ? worker.rate.begin : now;
+    auto const by_rate = piecepick_depth_by_rate_follow(&worker.rate, now);
+    look_over(now, is_ending_ && n_active < by_rate);
+    auto const depth = now - worker.rate.begin < RampMsec ? Deepest : by_rate * 3U / 2U;
+    call(piecepick_depth, asked_, std::min({ n_active + uint32_t(n_wanted_blocks), depth, Deepest }));
     call(piecepick_unchoke, asked_);
-    call(piecepick_depth, asked_, std::min(n_active + uint32_t(n_wanted_blocks), Deepest));
-    is_ending_ = false;
+    return ask(n_wanted_blocks);
+}
+
+std::vector<tr_block_span_t> PiecePick::ask(size_t n_wanted_blocks)
+{
+    auto spans = std::vector<tr_block_span_t>{};
+    auto& worker = workers_[asked_];
     while (std::size(spans) < n_wanted_blocks && worker.idle_at != call<uint64_t>(piecepick_epoch))
     {
         auto const answer = call(piecepick_next, asked_, salter_());
@@ -221,9 +222,9 @@ std::optional<std::vector<tr_block_span_t>> PiecePick::next(size_t n_wanted_bloc
         {
             spans.push_back({ block, block + 1U });
             auto const rule = call<uint32_t>(piecepick_rule, answer.piece, answer.begin / BlockSize);
-            if (rule >= PIECEPICK_RULE_ENDGAME)
+            is_ending_ = rule >= PIECEPICK_RULE_ENDGAME;
+            if (is_ending_)
             {
-                is_ending_ = true;
                 call(piecepick_depth, asked_, rule == PIECEPICK_RULE_LATE ? worker.fair_share : LeastShare);
             }
         }
@@ -252,7 +253,7 @@ void PiecePick::share_out(uint64_t now)
 // Which requests are late; and which weren't sent, since a web seed sends less than was chosen.
 void PiecePick::look_over(uint64_t now, bool shares)
 {
-    if (now - looked_at_ < (shares ? ShareMsec : LookMsec))
+    if (!shares && now - looked_at_ < LookMsec)
     {
         return;
     }

@@ -10,9 +10,7 @@
 #include <vector>
 
 #include <piecepick.h>
-
 #include "libtransmission/transmission.h"
-
 #include "libtransmission/crypto-utils.h" // tr_salt_shaker
 #include "libtransmission/observable.h"
 
@@ -61,6 +59,7 @@ private:
     void verdict(tr_piece_index_t piece, bool passed);
     void look_over(uint64_t now, bool shares);
     void share_out(uint64_t now);
+    [[nodiscard]] std::vector<tr_block_span_t> ask(size_t n_wanted_blocks);
     tr_torrent* tor_ = nullptr;
     std::shared_ptr<piecepick_picker> picker_;
     piecepick_options options_ = PIECEPICK_OPTIONS;
