@@ -67,6 +67,18 @@ same() {
     echo "with the option off the program is the same, bit for bit"
 }
 
+# test_glue: the test of the glue is compiled and linked as the daemon was, and run in a network that has nobody.
+test_glue() {
+    flags() { sed -n "s/^$1 = //p" ours/libtransmission/CMakeFiles/transmission.dir/flags.make; }
+    eval "c++ -c -o test_glue.o $(flags CXX_DEFINES) $(flags CXX_INCLUDES) $(flags CXX_FLAGS) -w '$here/test_glue.cc'"
+    link=$(sed -e 's|"CMakeFiles/[^"]*"||g; s|CMakeFiles/[^ ]*\.o||g; s|-o transmission-daemon|-o ../../test_glue ../../test_glue.o|' \
+        ours/daemon/CMakeFiles/transmission-daemon.dir/link.txt)
+    (cd ours/daemon && eval "$link")
+    rm -rf test-settings
+    mkdir test-settings
+    unshare --net ./test_glue test-settings
+}
+
 mode=build
 case ${1:-} in --*) mode=${1#--}; shift ;; esac
 [ $# = 1 ] || die "usage: build.sh [--same|--test] FOLDER"
@@ -76,6 +88,6 @@ cd "$1"
 case $mode in
     build) patch_source; build own OFF; build ours ON ;;
     same) same ;;
-    test) python3 "$here/scenes.py" . quick --times 1 ;;
+    test) test_glue; python3 "$here/scenes.py" . quick --times 1 ;;
     *) die "no such option: --$mode" ;;
 esac
