@@ -89,6 +89,7 @@ SCENES = {
         "in order, one slow of four", SLOW + LEECH, Content((150 * MB,)), act=read_in_order, settings={"sequential_download": True}
     ),
     "large": Scene("3 GiB, one seeder with no delay", (Host("seed"),) + LEECH, Content((3 << 30,), 1 << 20), packet=65000),
+    "magnet": Scene("16 MB from two seeders, by a magnet link", seeds(2, 4e6, 0.005) + LEECH, Content((16 * MB,)), by_link=True),
     "quick": Scene("16 MB from two seeders", seeds(2, 4e6, 0.005) + LEECH, Content((16 * MB,))),
 }  # fmt: skip
 
@@ -149,7 +150,7 @@ def main() -> int:
         return 0
     results: dict[str, dict[str, list[Figures]]] = {}
     with tempfile.TemporaryDirectory(dir=arguments.work) as work:
-        for name in arguments.names or [name for name in SCENES if name != "quick"]:
+        for name in arguments.names or [name for name in SCENES if name not in ("magnet", "quick")]:
             results[name] = {who: [] for who in SCENES[name].programs}
             for who, figures in run_scene(name, arguments, Path(work)):
                 results[name][who].append(figures)

@@ -68,6 +68,7 @@ class Scene:
     longest: float = 240.0
     act: Callable[[Trial], None] | None = None
     settings: dict[str, Any] = field(default_factory=dict)
+    by_link: bool = False  # the leechers have a magnet link alone
     programs: tuple[str, ...] = ("own", "ours")  # of the leechers; in "both" every other one has ours
 
     @property
@@ -94,6 +95,7 @@ class Store:
 
     def __init__(self, content: Content, folder: Path, hosts: int) -> None:
         self.content, self.folder, self.tracker = content, folder, 1 + hosts
+        self.announce = f"http://{Network.address(self.tracker)}:{TRACKER}/announce"
         self.path = folder / "content"
         self.torrent = folder / "content.torrent"
         self.sums: list[str] = []
@@ -137,9 +139,12 @@ class Store:
             info[b"length"] = lengths[0]
         else:
             info[b"files"] = [{b"length": length, b"path": [b"part-%d" % number]} for number, length in enumerate(lengths)]
-        announce = f"http://{Network.address(self.tracker)}:{TRACKER}/announce"
         self.infohash = hashlib.sha1(bencode(info)).digest()
-        self.torrent.write_bytes(bencode({b"announce": announce.encode(), b"info": info}))
+        self.torrent.write_bytes(bencode({b"announce": self.announce.encode(), b"info": info}))
+
+    def link_text(self) -> str:
+        """The magnet link."""
+        return f"magnet:?xt=urn:btih:{self.infohash.hex()}&tr={self.announce}"
 
     def link(self, below: Path) -> None:
         """A client that seeds has the same files."""
@@ -219,7 +224,10 @@ class Trial:
             if daemon in self.seeds:
                 daemon.add(self.store.torrent)
         for daemon in self.leechers:
-            daemon.add(self.store.torrent)
+            if self.scene.by_link:
+                daemon.call("torrent-add", filename=self.store.link_text())
+            else:
+                daemon.add(self.store.torrent)
         self.began = self.until(lambda: any(self.had(daemon) > 0 for daemon in self.leechers), 60.0)
         if self.scene.act:
             self.scene.act(self)
