@@ -3,7 +3,7 @@
 
 usage: edit.py SOURCE
 
-It copies the two files `peer-mgr-piecepick.*` of this folder into the tree, and puts a few lines of ours into seven of its files. Each place is
+It copies the two files `peer-mgr-piecepick.*` of this folder into the tree, and puts a few lines of ours into eight of its files. Each place is
 found by some words of it, and a tree in which they aren't just once is left as it is. In files that log, a line of ours takes the place of an
 empty one. So each message has the line number that it had, and without the option the programs are the same to the last bit.
 """

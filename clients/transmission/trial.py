@@ -165,14 +165,15 @@ def sum_of(path: Path) -> str:
         return hashlib.file_digest(file, "sha1").hexdigest()
 
 
-def tracker_of(address: tuple[str, int], peers: bytes) -> http.server.ThreadingHTTPServer:
-    """A tracker that names all hosts to everybody."""
-    body = b"d8:intervali1800e12:min intervali60e5:peers%d:%se" % (len(peers), peers)
+def tracker_of(address: tuple[str, int], peers: bytes, leechers: set[str]) -> http.server.ThreadingHTTPServer:
+    """A tracker that names all hosts to the leechers. Seeders wait to be called, so that no two hosts call each other at once."""
 
     class Handler(http.server.BaseHTTPRequestHandler):
         """Answers one announce."""
 
         def do_GET(self) -> None:
+            named = peers if self.client_address[0] in leechers else b""
+            body = b"d8:intervali1800e12:min intervali60e5:peers%d:%se" % (len(named), named)
             self.send_response(200)
             self.send_header("Content-Length", str(len(body)))
             self.end_headers()
@@ -198,8 +199,9 @@ class Trial:
         self.spoilers: list[Spoiler] = []
         self.took: dict[int, float] = {}
         peers = [(self.network.address(number), PORT) for number in range(1, 1 + len(scene.hosts))]
+        leechers = {host for (host, _), at in zip(peers, scene.hosts) if at.role == "leech"}
         with inside(self.network.names[-1]):
-            self.tracker = tracker_of((self.network.address(store.tracker), TRACKER), compact(peers))
+            self.tracker = tracker_of((self.network.address(store.tracker), TRACKER), compact(peers), leechers)
         for number, host in enumerate(scene.hosts, 1):
             self._host(number, host.role, programs, who)
 
