@@ -79,8 +79,7 @@ void PiecePick::set_levels()
     auto const is_in_order = tor_->is_sequential_download();
     for (tr_piece_index_t piece = 0U; piece < std::size(levels); ++piece)
     {
-        auto const is_edge = is_in_order && (piece == 0U || piece + 1U == std::size(levels)); // where a player looks first
-        levels[piece] = tor_->piece_is_wanted(piece) ? 4U + tor_->piece_priority(piece) + (is_edge ? 2U : 0U) : 0U;
+        levels[piece] = tor_->piece_is_wanted(piece) ? 4U + tor_->piece_priority(piece) : 0U;
     }
     call(piecepick_set_levels, std::data(levels), std::size(levels));
     call(piecepick_set_in_order, is_in_order ? 1U : 0U);
@@ -194,7 +193,7 @@ std::optional<std::vector<tr_block_span_t>> PiecePick::next(size_t n_wanted_bloc
     worker.heard_at = n_active == 0U ? now : worker.heard_at;
     worker.rate.begin = worker.rate.is_begun ? worker.rate.begin : now;
     auto const by_rate = piecepick_depth_by_rate_follow(&worker.rate, now);
-    look_over(now, is_ending_ && n_active < by_rate);
+    look_over(now, is_ending_ && n_active < by_rate && now - shared_at_ >= LookMsec / 4U);
     auto const depth = now - worker.rate.begin < RampMsec ? Deepest : by_rate * 3U / 2U;
     call(piecepick_depth, asked_, std::min({ n_active + uint32_t(n_wanted_blocks), depth, Deepest }));
     call(piecepick_unchoke, asked_);
@@ -205,7 +204,7 @@ std::vector<tr_block_span_t> PiecePick::ask(size_t n_wanted_blocks)
 {
     auto spans = std::vector<tr_block_span_t>{};
     auto& worker = workers_[asked_];
-    while (std::size(spans) < n_wanted_blocks && worker.idle_at != call<uint64_t>(piecepick_epoch))
+    for (auto is_idle = worker.idle_at == call<uint64_t>(piecepick_epoch); !is_idle && std::size(spans) < n_wanted_blocks;)
     {
         auto const answer = call(piecepick_next, asked_, salter_());
         auto const block = tor_->piece_loc(answer.piece, answer.begin).block;
@@ -215,6 +214,7 @@ std::vector<tr_block_span_t> PiecePick::ask(size_t n_wanted_blocks)
         }
         else if (answer.kind != PIECEPICK_K_REQUEST)
         {
+            is_idle = true;
             worker.idle_at = call<uint64_t>(piecepick_epoch);
             is_ending_ = is_ending_ || answer.kind == PIECEPICK_K_IDLE;
         }
@@ -258,6 +258,7 @@ void PiecePick::look_over(uint64_t now, bool shares)
         return;
     }
     looked_at_ = now;
+    shared_at_ = shares ? now : shared_at_;
     share_out(now);
     for (uint32_t number = 0U; number < std::size(workers_); ++number)
     {

@@ -22,10 +22,9 @@ struct tr_peer;
 class PiecePick
 {
 public:
-    // whom the next call of next() is for
     void ask_for(tr_torrent& tor, std::vector<tr_peerMsgs*> const& peers, tr_peer const& peer);
 
-    // the next blocks to request from that peer, or nothing where the library can't serve
+    // the next blocks to request from whom ask_for() named, or nothing where the library can't serve
     [[nodiscard]] std::optional<std::vector<tr_block_span_t>> next(size_t n_wanted_blocks);
     void told(tr_peer& peer, tr_peer_event const& event);
     void left(tr_peer const& peer);
@@ -40,7 +39,6 @@ private:
         piecepick_depth_by_rate rate = {};
         uint32_t fair_share = 0U; // of the missing blocks, by its rate among the others
     };
-
     template<typename T = piecepick_answer, typename Function, typename... Args>
     T call(Function function, Args... args)
     {
@@ -67,6 +65,7 @@ private:
     tr_salt_shaker<uint64_t, 64U> salter_;
     uint32_t asked_ = 0U;
     uint64_t looked_at_ = 0U;
+    uint64_t shared_at_ = 0U;
     bool is_ending_ = false; // a peer had nothing left to be asked for that no other one is asked for
     bool serves_ = false;
     std::array<libtransmission::ObserverTag, 4U> tags_;
