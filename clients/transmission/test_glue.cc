@@ -205,11 +205,10 @@ void test_choice(tr_torrent& tor)
     tor.set_sequential_download(true);
     auto const ordered = one.ask(tor, 5U * BlocksPerPiece);
     tor.set_sequential_download(false);
-    auto const edges = set_of({ std::begin(ordered), std::begin(ordered) + 2 * BlocksPerPiece });
-    check(edges.count(0U) == 1U && edges.count(Blocks - 1U) == 1U, "in order the first piece and the last one come first");
-    auto const borders = std::vector<tr_block_index_t>{ std::begin(ordered) + 2 * BlocksPerPiece, std::end(ordered) };
-    check(borders.front() == 3U * BlocksPerPiece, "then the pieces in which a file ends or begins, which transmission prefers");
-    check(borders.back() == 2U * BlocksPerPiece - 1U, "then come the others in order");
+    auto const edges = set_of({ std::begin(ordered), std::begin(ordered) + 4 * BlocksPerPiece });
+    check(edges.count(0U) == 1U && edges.count(3U * BlocksPerPiece) == 1U, "in order the edges of files come first");
+    check(edges.count(4U * BlocksPerPiece) == 1U && edges.count(Blocks - 1U) == 1U, "which transmission prefers");
+    check(ordered.back() == 2U * BlocksPerPiece - 1U, "then come the others in order");
 
     auto const file = tr_file_index_t{ 1U };
     tor.set_files_wanted(&file, 1U, false);
