@@ -1,0 +1,121 @@
+#!/usr/bin/env python3
+"""Edits Debian's source of transmission 4.1, so that it may be built with the piece picker of piecepick.
+
+usage: edit.py SOURCE
+
+It copies the two files `peer-mgr-piecepick.*` of this folder into the tree, and puts a few lines of ours into eight of its files. Each place is
+found by some words of it, and a tree in which they aren't just once is left as it is. In files that log, a line of ours takes the place of an
+empty one. So each message has the line number that it had, and without the option the programs are the same to the last bit.
+"""
+
+from __future__ import annotations
+
+import re
+import shutil
+import sys
+from dataclasses import dataclass
+from pathlib import Path
+
+HERE = Path(__file__).resolve().parent
+LIBRARY = "libtransmission"
+FILES = ("peer-mgr-piecepick.cc", "peer-mgr-piecepick.h")
+
+
+@dataclass(frozen=True)
+class Edit:
+    """In a file the text of one group of a pattern, which is found just once, becomes another one."""
+
+    file: str
+    pattern: str
+    text: str
+
+
+def behind(file: str, words: str, text: str) -> Edit:
+    """Lines behind the one that has these words."""
+    return Edit(file, rf"{words}[^\n]*\n()", text)
+
+
+def before(file: str, words: str, text: str) -> Edit:
+    """Lines before the one that has these words."""
+    return Edit(file, rf"\n()[^\n]*{words}", text)
+
+
+def fills(file: str, words: str, text: str) -> Edit:
+    """A line in place of the first empty one behind these words."""
+    return Edit(file, rf"{words}(?:[^\n]*\n)+?(\n)", text)
+
+
+def guarded(text: str) -> str:
+    """Lines that are there with the option alone."""
+    return f"#ifdef WITH_PIECEPICK\n{text}#endif\n"
+
+
+WISHLIST = f"{LIBRARY}/peer-mgr-wishlist"
+MANAGER = f"{LIBRARY}/peer-mgr.cc"
+MESSAGES = f"{LIBRARY}/peer-msgs.cc"
+BUILD = f"{LIBRARY}/CMakeLists.txt"
+ASK = """\
+    if (auto spans = piecepick.next(n_wanted_blocks))
+    {
+        return *std::move(spans);
+    }
+"""
+UNWANTED = """\
+// what follows a block that nobody waits for: at Err the bytes behind it stay unread until more of them come
+#ifdef WITH_PIECEPICK
+inline auto constexpr AfterUnwanted = ReadState::Now;
+#else
+inline auto constexpr AfterUnwanted = ReadState::Err;
+#endif
+
+"""
+CHANGED = "            priority_changed_.emit(this, files, n_files, TR_PRI_NORMAL); // no other event tells of wanted files\n"
+
+EDITS = (
+    behind("CMakeLists.txt", r"option\(ENABLE_UTP ", 'option(ENABLE_PIECEPICK "Choose what to request by the piecepick library" OFF)\n'),
+    before("CMakeLists.txt", r"find_package\(Threads\)", "if(ENABLE_PIECEPICK)\n    find_package(piecepick 3 REQUIRED CONFIG)\nendif()\n"),
+    before(BUILD, r" peer-mgr-wishlist\.cc", "".join(f"        {name}\n" for name in FILES)),
+    before(BUILD, r"\[=\[\[WITH_INOTIFY\]\]=\]", "    [=[[ENABLE_PIECEPICK]]=]\n        peer-mgr-piecepick.cc\n"),
+    before(BUILD, r"<STREQUAL:\$\{CRYPTO_PKG\},ccrypto>", "        $<$<BOOL:${ENABLE_PIECEPICK}>:WITH_PIECEPICK>\n"),
+    before(BUILD, r" transmission::crypto_impl", "        $<$<BOOL:${ENABLE_PIECEPICK}>:piecepick::piecepick>\n"),
+    behind(f"{WISHLIST}.h", r"libtransmission/observable\.h", '#include "libtransmission/peer-mgr-piecepick.h"\n'),
+    before(f"{WISHLIST}.h", r"private:\n +class Impl;", guarded("    PiecePick piecepick;\n")),
+    before(f"{WISHLIST}.cc", r"return impl_->next\(", guarded(ASK)),
+    fills(MANAGER, r"void remove_peer\(tr_peerMsgs", "        tr_piecepick_left(wishlist, *peer);\n"),
+    fills(MANAGER, r"msgs->swarm == s\)", "        tr_piecepick_told(s->wishlist, *msgs, event);\n"),
+    fills(MANAGER, r"static void peer_callback_webseed\(", "        tr_piecepick_told(s->wishlist, *peer, event);\n"),
+    fills(MANAGER, r"GetNextRequests\(\) is called", ""),
+    before(MANAGER, r"return swarm\.wishlist->next\(", "    tr_piecepick_ask_for(swarm, *peer);\n"),
+    Edit(MESSAGES, r"got unrequested block[^\n]*\n[^\n]*(ReadState::Err)", "AfterUnwanted"),
+    Edit(MESSAGES, r"got completed block[^\n]*\n[^\n]*(ReadState::Err)", "AfterUnwanted"),
+    behind(f"{LIBRARY}/peer-msgs.h", r"^#include \"libtransmission/peer-common\.h\"", '#include "libtransmission/peer-io.h" // for ReadState\n'),
+    before(f"{LIBRARY}/peer-msgs.h", r"^class tr_peerMsgs : ", UNWANTED),
+    behind(f"{LIBRARY}/torrent.h", r"if \(!is_bootstrapping\)\n +\{", guarded(CHANGED)),
+)
+
+
+def edited(text: str, edit: Edit) -> str:
+    """The text with this edit."""
+    found = list(re.finditer(edit.pattern, text, re.MULTILINE))
+    if len(found) != 1:
+        raise SystemExit(f"edit.py: {len(found)} places in {edit.file} for {edit.pattern}")
+    begin, end = found[0].span(1)
+    return text[:begin] + edit.text + text[end:]
+
+
+def main() -> None:
+    """Edits the tree that the command line names."""
+    if len(sys.argv) != 2:
+        raise SystemExit(__doc__)
+    tree = Path(sys.argv[1])
+    texts = {edit.file: (tree / edit.file).read_text(encoding="utf-8") for edit in EDITS}
+    for edit in EDITS:
+        texts[edit.file] = edited(texts[edit.file], edit)
+    for file, text in texts.items():
+        (tree / file).write_text(text, encoding="utf-8")
+    for name in FILES:
+        shutil.copy(HERE / name, tree / LIBRARY / name)
+
+
+if __name__ == "__main__":
+    main()
