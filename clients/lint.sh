@@ -26,6 +26,7 @@ typed() (
 if has mypy mypy --version; then
     typed clients -p piecepick -p fetch || bad "mypy, of the packages,"
     typed clients bencode.py downloads.py exports.py others.py player_libtorrent.py python/backend.py || bad "mypy, of the programs in clients,"
+    typed clients/transmission "$here"/transmission/*.py || bad "mypy, of clients/transmission,"
     typed clients/python/tests "$here"/python/tests/*.py || bad "mypy, of the package's tests,"
     typed tools "$root"/tools/*.py || bad "mypy, of tools,"
 fi
@@ -34,7 +35,7 @@ if has flake8 flake8 --version; then
     flake8 --config "$here/flake8.ini" "$here" "$root/tools" || bad flake8
 fi
 if has shellcheck shellcheck --version; then
-    shellcheck "$root/piecepick" "$root/test" "$root/.ci/run" "$here"/*.sh "$root"/tools/*.sh "$root"/tools/*/*.sh || bad shellcheck
+    shellcheck "$root/piecepick" "$root/test" "$root/.ci/run" "$here"/*.sh "$here"/transmission/*.sh "$root"/tools/*.sh "$root"/tools/*/*.sh || bad shellcheck
 fi
 
 # rust FOLDER: clippy over a crate and its tests. Nothing is linked, so an empty file stands for the library.

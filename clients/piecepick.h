@@ -167,7 +167,8 @@ void piecepick_close(piecepick_picker **picker);
 PIECEPICK_MUST piecepick_status piecepick_join(piecepick_picker *picker, uint32_t worker, piecepick_answer *answer);
 /* It is gone, and its requests with it. What it brought stays held. QUIET, or REFUSED by NOT_JOINED. */
 PIECEPICK_MUST piecepick_status piecepick_leave(piecepick_picker *picker, uint32_t worker, piecepick_answer *answer);
-/* It chokes us, or is silent: its requests are void. QUIET, or REFUSED by NOT_JOINED; so is the answer to an unchoke. */
+/* It chokes us, or is silent: its requests are void. QUIET, or REFUSED by NOT_JOINED; so is the answer to an unchoke. Reported twice, each of the
+   two is as once. */
 PIECEPICK_MUST piecepick_status piecepick_choke(piecepick_picker *picker, uint32_t worker, piecepick_answer *answer);
 PIECEPICK_MUST piecepick_status piecepick_unchoke(piecepick_picker *picker, uint32_t worker, piecepick_answer *answer);
 /* A `have` message. NOTED, or REFUSED by NOT_JOINED. */
@@ -191,11 +192,12 @@ PIECEPICK_MUST piecepick_status piecepick_release(piecepick_picker *picker, uint
 /* A request takes too long: late. It was rejected, or never sent: release. The block that begins there stays asked of the peer, and counts for its
    depth. For all other peers it is as if it had been released: one of them may be asked for it at once, before endgame. When another one brings
    it, a cancel is due at this peer as ever. While the request lasts, this peer isn't asked for the block again, not in endgame either. It may be
-   asked for others of the piece. The mark ends with the request: when the block comes from anybody, or at a choke, a leave, a release or a lack.
+   asked for others of the piece. Late blocks come in the order of their pieces, like any block that isn't requested, and `rush` doesn't bound them.
+   The mark ends with the request: when the block comes from anybody, or at a choke, a leave, a release or a lack.
    Told twice it is as once. QUIET, or REFUSED by NOT_JOINED or NOT_ASKED. */
 PIECEPICK_MUST piecepick_status piecepick_late(piecepick_picker *picker, uint32_t worker, uint32_t piece, uint32_t begin, piecepick_answer *answer);
 /* From now on `depth` blocks may be asked of the peer at a time, until another number is told or the worker's next peer joins. What is asked
-   stays asked. QUIET, or REFUSED by NOT_JOINED or WRONG_DEPTH. */
+   stays asked: where that is as many or more, the answer to a query is PIPE_FULL. QUIET, or REFUSED by NOT_JOINED or WRONG_DEPTH. */
 PIECEPICK_MUST piecepick_status piecepick_depth(piecepick_picker *picker, uint32_t worker, uint32_t depth, piecepick_answer *answer);
 /* From now on only blocks of this level, 0 to 7, and of lower ones are requested of the peer, in endgame too. It holds until another level is
    told or the worker's next peer joins, which begins with 7: all levels. So a slow peer gets nothing urgent. With 0 nothing is requested of it,
@@ -285,7 +287,8 @@ PIECEPICK_MUST piecepick_status piecepick_rule(piecepick_picker *picker, uint32_
 /* Of how many peers a block is requested that aren't late with it; `index` is its `begin` / 16384. Right after a REQUEST the peer itself is one of
    them, so 1 says that the block is in flight nowhere else. PIECE, BLOCK. */
 PIECEPICK_MUST piecepick_status piecepick_askers(piecepick_picker *picker, uint32_t piece, uint32_t index, uint32_t *number);
-/* How many blocks are asked of the worker's peer, and each by its place from 0, the oldest request first, told as a REQUEST. WORKER, PLACE. */
+/* How many blocks are asked of the worker's peer, and each by its place from 0, the oldest request first, told as a REQUEST. Where a request ends,
+   those behind it move one place forward: who releases several goes from the last place to the first. WORKER, PLACE. */
 PIECEPICK_MUST piecepick_status piecepick_outstanding(piecepick_picker *picker, uint32_t worker, uint32_t *number);
 PIECEPICK_MUST piecepick_status piecepick_outstanding_at(piecepick_picker *picker, uint32_t worker, uint32_t place, piecepick_answer *answer);
 
@@ -354,7 +357,7 @@ static inline void piecepick_depth_by_rate_begin(piecepick_depth_by_rate *peer, 
     *peer = fresh;
 }
 
-/* For the calls below: the newest time is `now`, and the seconds that begin by it are empty. */
+/* The newest time is `now`, and the seconds that begin by it are empty. The calls below do this too. */
 static inline void piecepick_depth_by_rate_turn(piecepick_depth_by_rate *peer, uint64_t now) {
     uint64_t second = peer->now / 1000;
     const uint64_t newest = now / 1000;
@@ -365,7 +368,7 @@ static inline void piecepick_depth_by_rate_turn(piecepick_depth_by_rate *peer, u
     while (second < newest) peer->counts[++second % 8] = 0;
 }
 
-/* For `follow`: blocks a second in so many last seconds, of which the newest isn't over, or in those since the peer came. */
+/* The rate: blocks a second in so many last seconds, 1 to 8, of which the newest isn't over, or in those since the peer came. Call `_turn` first. */
 static inline uint64_t piecepick_depth_by_rate_blocks(const piecepick_depth_by_rate *peer, uint32_t seconds) {
     const uint64_t lasted = peer->now - peer->begin;
     uint64_t passed = (uint64_t)1000 * (seconds - 1) + peer->now % 1000, bytes = 0;

@@ -152,7 +152,7 @@ void PiecePick::told(tr_peer& peer, tr_peer_event const& event)
     }
 }
 
-// These two stand in for calls without bytes, and with a verdict in place of a digest. The library reads no byte of a block.
+// This stands in for a call without bytes. The library reads no byte of a block.
 piecepick_answer PiecePick::came(uint32_t worker, uint32_t piece, uint32_t begin, uint32_t length)
 {
     static auto constexpr Unread = std::array<uint8_t, BlockSize>{};
@@ -161,10 +161,7 @@ piecepick_answer PiecePick::came(uint32_t worker, uint32_t piece, uint32_t begin
 
 void PiecePick::verdict(tr_piece_index_t piece, bool passed)
 {
-    auto const hash = passed ? tor_->piece_hash(piece) : tr_sha1_digest_t{};
-    auto digest = piecepick_digest{};
-    std::copy_n(reinterpret_cast<uint8_t const*>(std::data(hash)), std::size(hash), digest.bytes);
-    call(piecepick_settle, piece, &digest);
+    call(piecepick_verdict, piece, passed ? 1U : 0U);
 }
 
 void PiecePick::ask_for(tr_torrent& tor, std::vector<tr_peerMsgs*> const& peers, tr_peer const& peer)
