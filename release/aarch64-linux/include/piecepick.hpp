@@ -100,11 +100,19 @@ private:
     std::size_t size_;
 };
 
+/* The SHA-1 of a message. */
+[[nodiscard]] inline Digest hash(Bytes message) noexcept
+{
+    Digest digest;
+    piecepick_hash(message.data(), message.size(), &digest);
+    return digest;
+}
+
 /* The SHA-1 of each of four messages. Those of one length are hashed side by side. */
-[[nodiscard]] inline std::array<Digest, 4> hash4(Bytes first, Bytes second, Bytes third, Bytes fourth)
+[[nodiscard]] inline std::array<Digest, 4> hash_four(Bytes first, Bytes second, Bytes third, Bytes fourth)
 {
     std::array<Digest, 4> digests;
-    check(piecepick_hash4(first.data(), first.size(), second.data(), second.size(), third.data(), third.size(), fourth.data(), fourth.size(),
+    check(piecepick_hash_four(first.data(), first.size(), second.data(), second.size(), third.data(), third.size(), fourth.data(), fourth.size(),
                           reinterpret_cast<std::uint8_t *>(digests.data()), sizeof digests));
     return digests;
 }
@@ -190,11 +198,12 @@ public:
 
     /* Full pieces: by a digest, by a job, or here and now. */
     [[nodiscard]] Answer settle(std::uint32_t piece, const Digest &digest) { return answer(piecepick_settle, piece, &digest); }
+    [[nodiscard]] Answer verdict(std::uint32_t piece, bool passed) { return answer(piecepick_verdict, piece, std::uint32_t{passed}); }
     [[nodiscard]] Answer restore(std::uint32_t worker, std::uint32_t piece, Bytes bytes, const Digest &digest)
     {
         return answer(piecepick_restore, worker, piece, bytes.data(), bytes.size(), &digest);
     }
-    [[nodiscard]] Job job(std::uint32_t piece) { return Job(get(), piece); }
+    [[nodiscard]] Job job_take(std::uint32_t piece) { return Job(get(), piece); }
     [[nodiscard]] Answer settle(Job &job) { return answer(piecepick_job_settle, job.get()); }
     [[nodiscard]] Answer settle_now(std::uint32_t piece) { return answer(piecepick_settle_now, piece); }
     void read(std::uint32_t piece, const Room &room) { check(piecepick_read(get(), piece, room.data(), room.size())); }
@@ -216,6 +225,7 @@ public:
     [[nodiscard]] std::uint32_t blocks(std::uint32_t piece) { return number(piecepick_blocks, piece); }
     [[nodiscard]] std::uint32_t sender(std::uint32_t piece, std::uint32_t index) { return number(piecepick_sender, piece, index); }
     [[nodiscard]] PickRule rule(std::uint32_t piece, std::uint32_t index) { return static_cast<PickRule>(number(piecepick_rule, piece, index)); }
+    [[nodiscard]] std::uint32_t askers(std::uint32_t piece, std::uint32_t index) { return number(piecepick_askers, piece, index); }
     [[nodiscard]] std::uint32_t outstanding(std::uint32_t worker) { return number(piecepick_outstanding, worker); }
     [[nodiscard]] Answer outstanding_at(std::uint32_t worker, std::uint32_t place) { return answer(piecepick_outstanding_at, worker, place); }
 

@@ -1,6 +1,6 @@
-/* piecepick.h: the piece picker of a BitTorrent v1 download (BEP 3): which block to request next, from which peer, which cancels to send, and
-   which pieces are had. Every call is proved to do what the picker's rules say, whatever its numbers are. The contracts stand in
-   crates/bt_c/src/exports.
+/* piecepick.h: a formally verified piece picker for BitTorrent v1 clients (BEP 3). It decides which block to request next, and from which peer,
+   which cancels to send, and which pieces are complete. Every call is proved to do what the picker's rules say, whatever its numbers are. The
+   contracts are in crates/bt_c/src/exports. A piece that is complete, with the hash of the metainfo file, is "had" in the names of this file.
 
    A call returns a status, and writes its answer or its number in any case: kind 0, number 0 where the status isn't PIECEPICK_OK. A call whose
    status isn't PIECEPICK_OK has changed nothing that a later call can tell, and may be made again. A journal alone gets an entry more where
@@ -8,8 +8,8 @@
    Lengths are in bytes.
 
    What the library can't test, and the caller must see to:
-   - A digest that is told is the SHA-1 of the bytes that it is told for (piecepick_settle, piecepick_restore). Of a block that came twice these
-     are the bytes that came first. So where the picker keeps nothing, write a block's bytes where piecepick_arrived answers STORED or
+   - A digest that is told is the SHA-1 of the bytes that it is told for (piecepick_settle, piecepick_restore), and a verdict says whether these
+     have the piece's hash (piecepick_verdict). Of a block that came twice these are the bytes that came first. So where the picker keeps nothing, write a block's bytes where piecepick_arrived answers STORED or
      COMPLETED, and at no other answer. What is DROPPED is thrown away. Else a good piece fails, and piecepick_sender names an honest peer.
    - A pointer to a picker or a job starts as NULL. It is filled and freed by its own two calls alone, and isn't NULL at any other.
    - Each other pointer is valid for its call: an answer and a number may be written, a buffer has the length that is given with it, isn't NULL
@@ -45,26 +45,26 @@ typedef struct piecepick_job piecepick_job;
 
 typedef enum piecepick_status {
     PIECEPICK_OK = 0,
-    PIECEPICK_E_SHUT = 1,         /* the pointer leads to no picker: for wrappers, since no call at a pointer that was opened tells it */
-    PIECEPICK_E_OPEN = 2,         /* the pointer to be filled isn't NULL */
-    PIECEPICK_E_WORKER = 3,       /* no such worker; at open: the workers aren't 1 to 1,024 */
+    PIECEPICK_E_SHUT = 1,         /* there is no picker at the pointer: for wrappers, since no call at a pointer that was opened answers it */
+    PIECEPICK_E_OPEN = 2,         /* the handle to be filled must start as NULL */
+    PIECEPICK_E_WORKER = 3,       /* no such worker number; at open: the option `workers` isn't 1 to 1,024 */
     PIECEPICK_E_PIECE = 4,        /* no such piece */
-    PIECEPICK_E_BITS_LENGTH = 5,  /* the flags haven't one bit a piece */
-    PIECEPICK_E_SPARE_BITS = 6,   /* a bit behind those of the pieces is set */
-    PIECEPICK_E_LENGTH = 7,       /* the buffer hasn't just the length of what it is for */
+    PIECEPICK_E_BITS_LENGTH = 5,  /* wrong bitfield length: it must have one bit per piece, rounded up to bytes */
+    PIECEPICK_E_SPARE_BITS = 6,   /* a spare bit at the end of the bitfield is set */
+    PIECEPICK_E_LENGTH = 7,       /* wrong buffer length: it must be exactly that of the item */
     PIECEPICK_E_MEMORY = 8,       /* out of memory */
-    PIECEPICK_E_NOT_HAD = 9,      /* the piece isn't had */
+    PIECEPICK_E_NOT_HAD = 9,      /* the piece isn't complete */
     PIECEPICK_E_RULES = 10,       /* depth, deepest, askers, random, open, rush or shown is out of its range */
-    PIECEPICK_E_NOT_WAITING = 11, /* the piece isn't full, or is had: there is nothing to check */
-    PIECEPICK_E_NO_JOB = 12,      /* the pointer leads to no job: likewise */
+    PIECEPICK_E_NOT_WAITING = 11, /* the piece isn't waiting for a check: a block is lacking, or it is complete */
+    PIECEPICK_E_NO_JOB = 12,      /* there is no job at the pointer: for wrappers too */
     PIECEPICK_E_NOT_HASHED = 13,  /* the job wasn't hashed yet */
-    PIECEPICK_E_PLACE = 14,       /* fewer blocks than that are asked of the peer */
-    PIECEPICK_E_KEEPS = 15,       /* the picker keeps something else than the call is for */
-    PIECEPICK_E_OPTIONS = 16,     /* the options have another size, or `keeps` is none of the three */
-    PIECEPICK_E_STALE = 17,       /* the bytes that were hashed are no longer those held */
-    PIECEPICK_E_BLOCK = 18,       /* no such block of the piece */
+    PIECEPICK_E_PLACE = 14,       /* fewer blocks are requested from this peer */
+    PIECEPICK_E_KEEPS = 15,       /* the call isn't for what this picker keeps */
+    PIECEPICK_E_OPTIONS = 16,     /* `size` isn't sizeof(piecepick_options), or `keeps` is none of the three */
+    PIECEPICK_E_STALE = 17,       /* the bytes that were hashed aren't those that the picker holds now */
+    PIECEPICK_E_BLOCK = 18,       /* no such block in this piece */
     PIECEPICK_E_NOT_HELD = 19,    /* the block isn't held */
-    PIECEPICK_E_BEGUN = 20,       /* a block of the piece is held or asked of a peer, or it is had already */
+    PIECEPICK_E_BEGUN = 20,       /* the piece is complete, or a block of it is held or requested */
     PIECEPICK_E_FILE = 21,        /* no such file */
     PIECEPICK_E_PART = 22,        /* no such name on the file's path */
     /* At open, 100 and more: why the bytes are no metainfo file, or the parts no torrent. Reading is strict: keys that aren't sorted, and bytes
@@ -98,10 +98,10 @@ typedef enum piecepick_kind {
 typedef enum piecepick_reason {
     PIECEPICK_R_NONE = 0,
     PIECEPICK_R_NOT_JOINED = 1, PIECEPICK_R_ALREADY_JOINED = 2,
-    PIECEPICK_R_LATE_BITS = 3,     /* a bitfield that isn't the peer's first word: tell it by piecepick_haves */
+    PIECEPICK_R_LATE_BITS = 3,     /* a bitfield must be a peer's first message: report it by piecepick_haves */
     PIECEPICK_R_WRONG_COUNT = 4, PIECEPICK_R_NO_SUCH_PIECE = 5, PIECEPICK_R_NO_SUCH_BLOCK = 6, PIECEPICK_R_WRONG_LENGTH = 7,
     PIECEPICK_R_NOT_WAITING = 8, PIECEPICK_R_STALE = 9,
-    PIECEPICK_R_NOT_ASKED = 10,    /* the block isn't asked of the peer */
+    PIECEPICK_R_NOT_ASKED = 10,    /* the block isn't requested from this peer */
     PIECEPICK_R_WRONG_DEPTH = 11,  /* a depth of 0, or beyond `deepest` */
     PIECEPICK_R_WRONG_LEVEL = 12   /* a level or a reach above 7, or an order from a level above 8 */
 } piecepick_reason;
@@ -161,24 +161,29 @@ PIECEPICK_MUST piecepick_status piecepick_open_parts(piecepick_picker **picker, 
 /* Frees the picker, if there is one. The pointer is NULL then. */
 void piecepick_close(piecepick_picker **picker);
 
-/* What came on the wire of a worker's peer. WORKER; PIECE at a piece that isn't; BITS_LENGTH and SPARE_BITS at the two with flags. MEMORY at these
-   two, at each call where a journal is kept, and at an arrival where its block is kept. No other of these calls tells it. */
+/* What came on the wire of a worker's peer. WORKER; PIECE where there is no such piece; BITS_LENGTH and SPARE_BITS at the two with flags. MEMORY at
+   these two, at each call where a journal is kept, and at an arrival where its block is kept. No other of these calls returns it. */
+/* A peer is connected: it chokes us, and shows no piece yet. JOINED, or REFUSED by ALREADY_JOINED. */
 PIECEPICK_MUST piecepick_status piecepick_join(piecepick_picker *picker, uint32_t worker, piecepick_answer *answer);
+/* It is gone, and its requests with it. What it brought stays held. QUIET, or REFUSED by NOT_JOINED. */
 PIECEPICK_MUST piecepick_status piecepick_leave(piecepick_picker *picker, uint32_t worker, piecepick_answer *answer);
-PIECEPICK_MUST piecepick_status piecepick_choke(piecepick_picker *picker, uint32_t worker, piecepick_answer *answer); /* also: the peer is silent */
+/* It chokes us, or is silent: its requests are void. QUIET, or REFUSED by NOT_JOINED; so is the answer to an unchoke. Reported twice, each of the
+   two is as once. */
+PIECEPICK_MUST piecepick_status piecepick_choke(piecepick_picker *picker, uint32_t worker, piecepick_answer *answer);
 PIECEPICK_MUST piecepick_status piecepick_unchoke(piecepick_picker *picker, uint32_t worker, piecepick_answer *answer);
+/* A `have` message. NOTED, or REFUSED by NOT_JOINED. */
 PIECEPICK_MUST piecepick_status piecepick_have(piecepick_picker *picker, uint32_t worker, uint32_t piece, piecepick_answer *answer);
-/* A `bitfield` message: its payload. */
+/* A `bitfield` message: its payload. NOTED, or REFUSED by NOT_JOINED, or by LATE_BITS where another message of the peer was reported before. */
 PIECEPICK_MUST piecepick_status piecepick_bits(piecepick_picker *picker, uint32_t worker, const uint8_t *payload, size_t payload_len, piecepick_answer *answer);
 /* The peer has these pieces too, at any time, spelled as in a `bitfield` message: a second `bitfield` came, or `have all` (BEP 6). What it had
-   before stays, so `have none` needs no call. */
+   before stays, so `have none` needs no call. NOTED, or REFUSED by NOT_JOINED. */
 PIECEPICK_MUST piecepick_status piecepick_haves(piecepick_picker *picker, uint32_t worker, const uint8_t *flags, size_t flags_len, piecepick_answer *answer);
 /* The peer has this piece no more (`lt_donthave`, BEP 54), until a later call shows it again. Each block of it that is asked of the peer is asked
    of it no more, as by piecepick_release, and no cancel follows. What is held stays held. A piece that the peer doesn't show is no error: the
    epoch rises, and a bitfield would come too late. NOTED, or REFUSED by NOT_JOINED. */
 PIECEPICK_MUST piecepick_status piecepick_lack(piecepick_picker *picker, uint32_t worker, uint32_t piece, piecepick_answer *answer);
 /* A block came. A picker that keeps nothing reads none of the bytes, and the caller writes them at STORED and COMPLETED alone; another one keeps
-   a copy. */
+   a copy. STORED, COMPLETED or DROPPED; REFUSED by NOT_JOINED, NO_SUCH_BLOCK or WRONG_LENGTH. */
 PIECEPICK_MUST piecepick_status piecepick_arrived(piecepick_picker *picker, uint32_t worker, uint32_t piece, uint32_t begin, const uint8_t *bytes,
                                                   size_t bytes_len, piecepick_answer *answer);
 /* The block that begins `begin` bytes into the piece is asked of the peer no more: the peer rejected it (BEP 6), or the request was not sent. Any
@@ -187,11 +192,12 @@ PIECEPICK_MUST piecepick_status piecepick_release(piecepick_picker *picker, uint
 /* A request takes too long: late. It was rejected, or never sent: release. The block that begins there stays asked of the peer, and counts for its
    depth. For all other peers it is as if it had been released: one of them may be asked for it at once, before endgame. When another one brings
    it, a cancel is due at this peer as ever. While the request lasts, this peer isn't asked for the block again, not in endgame either. It may be
-   asked for others of the piece. The mark ends with the request: when the block comes from anybody, or at a choke, a leave, a release or a lack.
+   asked for others of the piece. Late blocks come in the order of their pieces, like any block that isn't requested, and `rush` doesn't bound them.
+   The mark ends with the request: when the block comes from anybody, or at a choke, a leave, a release or a lack.
    Told twice it is as once. QUIET, or REFUSED by NOT_JOINED or NOT_ASKED. */
 PIECEPICK_MUST piecepick_status piecepick_late(piecepick_picker *picker, uint32_t worker, uint32_t piece, uint32_t begin, piecepick_answer *answer);
 /* From now on `depth` blocks may be asked of the peer at a time, until another number is told or the worker's next peer joins. What is asked
-   stays asked. QUIET, or REFUSED by NOT_JOINED or WRONG_DEPTH. */
+   stays asked: where that is as many or more, the answer to a query is PIPE_FULL. QUIET, or REFUSED by NOT_JOINED or WRONG_DEPTH. */
 PIECEPICK_MUST piecepick_status piecepick_depth(piecepick_picker *picker, uint32_t worker, uint32_t depth, piecepick_answer *answer);
 /* From now on only blocks of this level, 0 to 7, and of lower ones are requested of the peer, in endgame too. It holds until another level is
    told or the worker's next peer joins, which begins with 7: all levels. So a slow peer gets nothing urgent. With 0 nothing is requested of it,
@@ -204,7 +210,8 @@ PIECEPICK_MUST piecepick_status piecepick_reach(piecepick_picker *picker, uint32
    piece. So the sender of a whole piece is known where a check failed, or a fast peer or a web seed has pieces to itself. Its pieces wait for it:
    tell it off where it gets slow, and where it is IDLE with nothing in flight. What is asked stays asked. QUIET, or REFUSED by NOT_JOINED. */
 PIECEPICK_MUST piecepick_status piecepick_alone(piecepick_picker *picker, uint32_t worker, uint32_t yes, piecepick_answer *answer);
-/* What to say to the peer next: send what it answers while it is CANCEL or REQUEST. The word is the caller's randomness. */
+/* What to send to the peer next: send what it answers while it is CANCEL or REQUEST. Else CHOKED, PIPE_FULL, IDLE or NOTHING_LEFT, or REFUSED by
+   NOT_JOINED. The word is the caller's randomness, which settles what the rules leave open. Any generator will do, and 0 is allowed. */
 PIECEPICK_MUST piecepick_status piecepick_next(piecepick_picker *picker, uint32_t worker, uint64_t word, piecepick_answer *answer);
 
 /* What is to be downloaded, for all peers. What is asked stays asked. Just these pieces, spelled as in a `bitfield` message; they have level 4
@@ -233,6 +240,10 @@ PIECEPICK_MUST piecepick_status piecepick_discard(piecepick_picker *picker, uint
 
 /* KEEPS_NOTHING: the piece is full, and this is the SHA-1 of its blocks as they were stored. HAD or FAILED. KEEPS, PIECE, NOT_WAITING. */
 PIECEPICK_MUST piecepick_status piecepick_settle(piecepick_picker *picker, uint32_t piece, const piecepick_digest *digest, piecepick_answer *answer);
+/* KEEPS_NOTHING: the piece is full, and you compared its hash yourself: `passed` isn't 0 where its blocks, as they were stored, have the hash of
+   the metainfo file. HAD or FAILED. KEEPS, PIECE, NOT_WAITING. Where the disk couldn't be read nothing is known of the hash: tell
+   piecepick_discard of each block, so that all are asked for again. */
+PIECEPICK_MUST piecepick_status piecepick_verdict(piecepick_picker *picker, uint32_t piece, uint32_t passed, piecepick_answer *answer);
 /* KEEPS_NOTHING: the whole piece is on a disk, for which this worker stands; it has joined, and shows nothing. The digest is the SHA-1 of the
    bytes, of which none is read: a mapping of the file costs no reading. HAD, FAILED, or REFUSED by NOT_JOINED. KEEPS, WORKER, PIECE, LENGTH,
    BEGUN. Blocks of a piece that isn't whole are told by piecepick_arrived, and stay held behind the worker's leave. */
@@ -273,7 +284,11 @@ PIECEPICK_MUST piecepick_status piecepick_sender(piecepick_picker *picker, uint3
    the block of a REQUEST before the next call that tells something, which may change it. Of any other block the number means nothing. PIECE,
    BLOCK. */
 PIECEPICK_MUST piecepick_status piecepick_rule(piecepick_picker *picker, uint32_t piece, uint32_t index, uint32_t *number);
-/* How many blocks are asked of the worker's peer, and each by its place from 0, the oldest request first, told as a REQUEST. WORKER, PLACE. */
+/* Of how many peers a block is requested that aren't late with it; `index` is its `begin` / 16384. Right after a REQUEST the peer itself is one of
+   them, so 1 says that the block is in flight nowhere else. PIECE, BLOCK. */
+PIECEPICK_MUST piecepick_status piecepick_askers(piecepick_picker *picker, uint32_t piece, uint32_t index, uint32_t *number);
+/* How many blocks are asked of the worker's peer, and each by its place from 0, the oldest request first, told as a REQUEST. Where a request ends,
+   those behind it move one place forward: who releases several goes from the last place to the first. WORKER, PLACE. */
 PIECEPICK_MUST piecepick_status piecepick_outstanding(piecepick_picker *picker, uint32_t worker, uint32_t *number);
 PIECEPICK_MUST piecepick_status piecepick_outstanding_at(piecepick_picker *picker, uint32_t worker, uint32_t place, piecepick_answer *answer);
 
@@ -293,9 +308,12 @@ PIECEPICK_MUST piecepick_status piecepick_file_parts(piecepick_picker *picker, u
 PIECEPICK_MUST piecepick_status piecepick_file_part_length(piecepick_picker *picker, uint64_t file, uint64_t part, uint64_t *number);
 PIECEPICK_MUST piecepick_status piecepick_file_part(piecepick_picker *picker, uint64_t file, uint64_t part, uint8_t *room, size_t room_len);
 
+/* The SHA-1 of one message, for a client that hashes. It needs no picker, takes no memory, and may be called by several threads at once. So is
+   the next one. */
+void piecepick_hash(const uint8_t *message, size_t message_len, piecepick_digest *digest);
 /* The SHA-1 of each of four messages, one digest behind the other, into a room of 80 bytes (LENGTH). Messages of one length are hashed side by
-   side, at more than twice the speed. It needs no picker, takes no memory, and may be called by several threads at once. */
-PIECEPICK_MUST piecepick_status piecepick_hash4(const uint8_t *first, size_t first_len, const uint8_t *second, size_t second_len,
+   side, at more than twice the speed. */
+PIECEPICK_MUST piecepick_status piecepick_hash_four(const uint8_t *first, size_t first_len, const uint8_t *second, size_t second_len,
                                                 const uint8_t *third, size_t third_len, const uint8_t *fourth, size_t fourth_len,
                                                 uint8_t *digests, size_t digests_len);
 
@@ -339,7 +357,7 @@ static inline void piecepick_depth_by_rate_begin(piecepick_depth_by_rate *peer, 
     *peer = fresh;
 }
 
-/* For the calls below: the newest time is `now`, and the seconds that begin by it are empty. */
+/* The newest time is `now`, and the seconds that begin by it are empty. The calls below do this too. */
 static inline void piecepick_depth_by_rate_turn(piecepick_depth_by_rate *peer, uint64_t now) {
     uint64_t second = peer->now / 1000;
     const uint64_t newest = now / 1000;
@@ -350,7 +368,7 @@ static inline void piecepick_depth_by_rate_turn(piecepick_depth_by_rate *peer, u
     while (second < newest) peer->counts[++second % 8] = 0;
 }
 
-/* For `follow`: blocks a second in so many last seconds, of which the newest isn't over, or in those since the peer came. */
+/* The rate: blocks a second in so many last seconds, 1 to 8, of which the newest isn't over, or in those since the peer came. Call `_turn` first. */
 static inline uint64_t piecepick_depth_by_rate_blocks(const piecepick_depth_by_rate *peer, uint32_t seconds) {
     const uint64_t lasted = peer->now - peer->begin;
     uint64_t passed = (uint64_t)1000 * (seconds - 1) + peer->now % 1000, bytes = 0;
@@ -407,38 +425,38 @@ static inline uint32_t piecepick_depth_by_rate_follow(piecepick_depth_by_rate *p
 static inline const char *piecepick_status_text(piecepick_status status) {
     switch (status) {
     case PIECEPICK_OK: return "done";
-    case PIECEPICK_E_SHUT: return "the pointer leads to nothing";
-    case PIECEPICK_E_OPEN: return "the pointer to be filled isn't NULL";
-    case PIECEPICK_E_WORKER: return "no such worker";
+    case PIECEPICK_E_SHUT: return "there is no picker at this pointer";
+    case PIECEPICK_E_OPEN: return "the handle to be filled must start as NULL";
+    case PIECEPICK_E_WORKER: return "no such worker number";
     case PIECEPICK_E_PIECE: return "no such piece";
-    case PIECEPICK_E_BITS_LENGTH: return "the flags haven't one bit a piece";
-    case PIECEPICK_E_SPARE_BITS: return "a bit behind those of the pieces is set";
-    case PIECEPICK_E_LENGTH: return "the buffer has another length";
+    case PIECEPICK_E_BITS_LENGTH: return "wrong bitfield length: it must have one bit per piece, rounded up to bytes";
+    case PIECEPICK_E_SPARE_BITS: return "a spare bit at the end of the bitfield is set";
+    case PIECEPICK_E_LENGTH: return "wrong buffer length: it must be exactly that of the item";
     case PIECEPICK_E_MEMORY: return "out of memory";
-    case PIECEPICK_E_NOT_HAD: return "the piece isn't had";
-    case PIECEPICK_E_RULES: return "depth, deepest, askers, random, open, rush or shown is out of its range";
-    case PIECEPICK_E_NOT_WAITING: return "the piece doesn't wait for a check";
-    case PIECEPICK_E_NO_JOB: return "the pointer leads to no job";
-    case PIECEPICK_E_NOT_HASHED: return "the job wasn't hashed";
-    case PIECEPICK_E_PLACE: return "fewer blocks than that are asked of the peer";
-    case PIECEPICK_E_KEEPS: return "the picker keeps something else than the call is for";
-    case PIECEPICK_E_OPTIONS: return "options of another size, or that keep what isn't kept";
-    case PIECEPICK_E_STALE: return "the bytes that were hashed are no longer those held";
-    case PIECEPICK_E_BLOCK: return "no such block of the piece";
+    case PIECEPICK_E_NOT_HAD: return "the piece isn't complete";
+    case PIECEPICK_E_RULES: return "an option is out of its range: depth, deepest, askers, random, open, rush or shown";
+    case PIECEPICK_E_NOT_WAITING: return "the piece isn't waiting for a check: a block is lacking, or it is complete";
+    case PIECEPICK_E_NO_JOB: return "there is no job at this pointer";
+    case PIECEPICK_E_NOT_HASHED: return "the job wasn't hashed yet";
+    case PIECEPICK_E_PLACE: return "fewer blocks are requested from this peer";
+    case PIECEPICK_E_KEEPS: return "the call isn't for what this picker keeps";
+    case PIECEPICK_E_OPTIONS: return "wrong options: size must be sizeof(piecepick_options), and keeps one of the three";
+    case PIECEPICK_E_STALE: return "the bytes that were hashed aren't those that the picker holds now";
+    case PIECEPICK_E_BLOCK: return "no such block in this piece";
     case PIECEPICK_E_NOT_HELD: return "the block isn't held";
-    case PIECEPICK_E_BEGUN: return "the piece is begun, or had already";
+    case PIECEPICK_E_BEGUN: return "the piece is complete, or a block of it is held or requested";
     case PIECEPICK_E_FILE: return "no such file";
     case PIECEPICK_E_PART: return "no such name on the file's path";
-    case PIECEPICK_E_BENCODE: return "not bencoded, or not as strictly as BEP 3 has it";
-    case PIECEPICK_E_NOT_DICTIONARY: return "the metainfo is no dictionary";
-    case PIECEPICK_E_MISSING_KEY: return "a key of the metainfo is missing";
-    case PIECEPICK_E_WRONG_KIND: return "a value of the metainfo, or its info, has another kind";
-    case PIECEPICK_E_PIECE_LENGTH: return "a piece length that isn't 1 to 2^31";
-    case PIECEPICK_E_PIECES_LENGTH: return "digests that aren't 20 bytes each";
-    case PIECEPICK_E_LENGTH_AND_FILES: return "both length and files";
-    case PIECEPICK_E_NO_CONTENT: return "neither length nor files, or no bytes";
-    case PIECEPICK_E_COUNT_MISMATCH: return "another number of digests than of pieces";
-    case PIECEPICK_E_TOO_LARGE: return "too large";
+    case PIECEPICK_E_BENCODE: return "not valid bencode: keys must be sorted, and nothing may follow the end";
+    case PIECEPICK_E_NOT_DICTIONARY: return "the metainfo isn't a dictionary";
+    case PIECEPICK_E_MISSING_KEY: return "a required key is missing from the metainfo";
+    case PIECEPICK_E_WRONG_KIND: return "a value in the metainfo has the wrong type";
+    case PIECEPICK_E_PIECE_LENGTH: return "the piece length isn't 1 to 2^31 bytes";
+    case PIECEPICK_E_PIECES_LENGTH: return "the piece hashes aren't 20 bytes each";
+    case PIECEPICK_E_LENGTH_AND_FILES: return "the metainfo has both length and files";
+    case PIECEPICK_E_NO_CONTENT: return "the torrent has no content: neither length nor files, or not one byte in them";
+    case PIECEPICK_E_COUNT_MISMATCH: return "the number of piece hashes doesn't match the length of the content";
+    case PIECEPICK_E_TOO_LARGE: return "the torrent is too large: at most 2^63 - 1 bytes and 2^32 - 1 pieces";
     }
     return "no status of this interface";
 }
@@ -468,18 +486,18 @@ static inline const char *piecepick_kind_text(piecepick_kind kind) {
 static inline const char *piecepick_reason_text(piecepick_reason reason) {
     switch (reason) {
     case PIECEPICK_R_NONE: return "none";
-    case PIECEPICK_R_NOT_JOINED: return "the worker hasn't joined";
-    case PIECEPICK_R_ALREADY_JOINED: return "the worker has joined already";
-    case PIECEPICK_R_LATE_BITS: return "a bitfield that isn't the peer's first word";
-    case PIECEPICK_R_WRONG_COUNT: return "not one for each piece";
+    case PIECEPICK_R_NOT_JOINED: return "no peer has joined under this worker number";
+    case PIECEPICK_R_ALREADY_JOINED: return "a peer has joined under this worker number already";
+    case PIECEPICK_R_LATE_BITS: return "a bitfield must be a peer's first message";
+    case PIECEPICK_R_WRONG_COUNT: return "wrong number of items: it must be one per piece";
     case PIECEPICK_R_NO_SUCH_PIECE: return "no such piece";
-    case PIECEPICK_R_NO_SUCH_BLOCK: return "no such block";
-    case PIECEPICK_R_WRONG_LENGTH: return "a block of another length";
-    case PIECEPICK_R_NOT_WAITING: return "the piece doesn't wait for a check";
-    case PIECEPICK_R_STALE: return "the bytes that were hashed are no longer those held";
-    case PIECEPICK_R_NOT_ASKED: return "the block isn't asked of the peer";
-    case PIECEPICK_R_WRONG_DEPTH: return "a depth of 0, or beyond the deepest";
-    case PIECEPICK_R_WRONG_LEVEL: return "a level or a reach above 7, or an order from a level above 8";
+    case PIECEPICK_R_NO_SUCH_BLOCK: return "no block begins there";
+    case PIECEPICK_R_WRONG_LENGTH: return "wrong block length";
+    case PIECEPICK_R_NOT_WAITING: return "the piece isn't waiting for a check: a block is lacking, or it is complete";
+    case PIECEPICK_R_STALE: return "the bytes that were hashed aren't those that the picker holds now";
+    case PIECEPICK_R_NOT_ASKED: return "the block isn't requested from this peer";
+    case PIECEPICK_R_WRONG_DEPTH: return "the depth must be 1 to the option deepest";
+    case PIECEPICK_R_WRONG_LEVEL: return "a level is out of its range: 0 to 7, or 0 to 8 for the order";
     }
     return "no reason of this interface";
 }
