@@ -38,7 +38,7 @@ fn made(options: Options) -> Result<(Picker, Vec<u8>), Error> {
 
 /// The flags of a peer that has each of so many pieces, as in its `bitfield` message.
 fn all(pieces: u32) -> Vec<u8> {
-    let mut flags = vec![0; pieces.div_ceil(8) as usize];
+    let mut flags = vec![0; (pieces as usize + 7) / 8];
     for piece in 0..pieces {
         flags[piece as usize / 8] |= 0x80 >> (piece % 8);
     }

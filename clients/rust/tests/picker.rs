@@ -153,8 +153,8 @@ fn blocks_are_asked_and_released() {
     let mut picker = with_peer(Keeps::Nothing);
     assert_eq!(picker.depth(0, 2), Ok(Answer::Quiet));
     assert_eq!(picker.depth(0, 501), Ok(Answer::Refused(Reason::WrongDepth)));
-    let Ok(Answer::Request(first)) = picker.next(0, 1) else { panic!("no request") };
-    let Ok(Answer::Request(second)) = picker.next(0, 2) else { panic!("no request") };
+    let first = requested(&mut picker, 0, 1);
+    let second = requested(&mut picker, 0, 2);
     assert_eq!(picker.next(0, 3).unwrap().kind(), Kind::PipeFull);
     assert_eq!(picker.outstanding(0), Ok(2));
     assert_eq!((picker.outstanding_at(0, 0), picker.outstanding_at(0, 1)), (Ok(first), Ok(second)));
@@ -178,9 +178,17 @@ fn with_late(depth: u32) -> Picker {
     picker
 }
 
+/// The block that is requested next of the worker's peer.
+fn requested(picker: &mut Picker, worker: u32, random: u64) -> Block {
+    match picker.next(worker, random) {
+        Ok(Answer::Request(block)) => block,
+        other => panic!("no request: {other:?}"),
+    }
+}
+
 /// The place of the next request, and its rule.
 fn asked_by(picker: &mut Picker, worker: u32) -> (u32, usize, PickRule) {
-    let Ok(Answer::Request(block)) = picker.next(worker, 0) else { panic!("no request") };
+    let block = requested(picker, worker, 0);
     (block.piece, block.begin as usize, picker.rule(block.piece, block.begin / BLOCK as u32).unwrap())
 }
 
@@ -300,7 +308,7 @@ fn a_slow_peer_gets_nothing_urgent() {
     picker.set_levels(&[7, 5, 4, 2, 0, 0, 0]).unwrap();
     assert_eq!(picker.reach(0, 4), Ok(Answer::Quiet));
     for number in [2, 2, 3, 3] {
-        let Ok(Answer::Request(block)) = picker.next(0, 1) else { panic!("no request") };
+        let block = requested(&mut picker, 0, 1);
         assert_eq!(block.piece, number);
     }
     assert_eq!(picker.next(0, 1), Ok(Answer::Idle));
@@ -508,7 +516,7 @@ fn a_block_from_another_peer_is_cancelled() {
     let content = content();
     let mut picker = with_peer(Keeps::Nothing);
     picker.join(1).unwrap();
-    let Ok(Answer::Request(Block { piece: number, begin, length })) = picker.next(0, 1) else { panic!("no request") };
+    let Block { piece: number, begin, length } = requested(&mut picker, 0, 1);
     let bytes = &piece(&content, number)[begin as usize..][..length as usize];
     assert_eq!(picker.arrived(1, number, begin, &bytes[1..]), Ok(Answer::Refused(Reason::WrongLength)));
     assert_eq!(picker.arrived(1, number, begin, bytes), Ok(Answer::Stored));
@@ -526,7 +534,7 @@ fn levels_say_what_comes_first() {
     assert_eq!(picker.set_level(3, 7), Ok(Answer::Quiet));
     assert_eq!(picker.set_level(3, 8), Ok(Answer::Refused(Reason::WrongLevel)));
     assert_eq!(picker.set_level(PIECES, 7), Err(Error::Piece));
-    let Ok(Answer::Request(block)) = picker.next(0, 1) else { panic!("no request") };
+    let block = requested(&mut picker, 0, 1);
     assert_eq!((picker.level(3), block.piece), (Ok(7), 3));
     assert_eq!(picker.set_levels(&[0; 6]), Ok(Answer::Refused(Reason::WrongCount)));
     let before = picker.epoch();
@@ -548,7 +556,7 @@ fn some_levels_come_in_order() {
     assert_eq!(picker.set_in_order_from(5), Ok(Answer::Quiet));
     assert_eq!((picker.order_from(), picker.is_in_order()), (5, false));
     for number in [5, 5, 6, 6] {
-        let Ok(Answer::Request(block)) = picker.next(0, 6) else { panic!("no request") };
+        let block = requested(&mut picker, 0, 6);
         assert_eq!(block.piece, number);
     }
     // All are as rare here, and the word names the first one of them that isn't in order.
@@ -574,7 +582,7 @@ fn the_newest_order_holds() {
 
 /// The piece of the next request, and its rule.
 fn ruled(picker: &mut Picker, worker: u32) -> (u32, PickRule) {
-    let Ok(Answer::Request(block)) = picker.next(worker, 1) else { panic!("no request") };
+    let block = requested(picker, worker, 1);
     (block.piece, picker.rule(block.piece, block.begin / BLOCK as u32).unwrap())
 }
 
