@@ -261,7 +261,7 @@ class BySockets(unittest.TestCase):
 
     def test_found(self) -> None:
         first = Node("127.0.0.1", 0, [])
-        others = [Node("127.0.0.1", 0, [("localhost", first.port)]) for _ in range(2)]
+        others = [Node("127.0.0.1", 0, [("127.0.0.1", first.port)]) for _ in range(2)]
         for node in (first, *others):
             self.addCleanup(node.close)
             node.start()
