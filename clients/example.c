@@ -84,7 +84,7 @@ static void settle(piecepick_picker *picker, uint32_t piece, uint8_t *place)
     check("job_take", piecepick_job_take(picker, piece, &job));
     check("job_hash", piecepick_job_hash(job));
     check("job_settle", piecepick_job_settle(picker, job, &answer));
-    if (answer.kind == PIECEPICK_K_FAILED) { /* a client looks for the peer that sent wrong bytes, and downloads the piece again */
+    if (answer.kind == PIECEPICK_K_FAILED) { /* a client had noted the senders before, drops who sent wrong bytes, and downloads the piece again */
         fprintf(stderr, "piece %u has another hash\n", (unsigned)piece);
         exit(1);
     }

@@ -10,6 +10,8 @@
 
 It is a binding of libpiecepick, whose header piecepick.h says what each call means. A call whose status isn't OK raises a PiecepickError, and
 has changed nothing. A call that a rule refuses has the answer REFUSED: that is mostly the peer's fault, and raises nothing.
+
+Beside what is listed, `piecepick.hash(data)` is the SHA-1 of one message.
 """
 
 from ._native import Keeps, Kind, PickRule, Reason, Status

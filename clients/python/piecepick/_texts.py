@@ -4,7 +4,7 @@ STATUS = {
     "OK": "done",
     "SHUT": "there is no picker at this pointer",
     "OPEN": "the handle to be filled must start as NULL",
-    "WORKER": "no such worker number",
+    "WORKER": "no such worker number, or the option workers isn't 1 to 1,024",
     "PIECE": "no such piece",
     "BITS_LENGTH": "wrong bitfield length: it must have one bit per piece, rounded up to bytes",
     "SPARE_BITS": "a spare bit at the end of the bitfield is set",

@@ -413,7 +413,8 @@ class Picker:
         return self._told(LIBRARY.piecepick_alone, _u32(worker), int(bool(yes)))
 
     def next(self, worker: int, word: int | None = None) -> Answer:
-        """What to say to the peer next. Ask until the answer is neither CANCEL nor REQUEST. The word is the randomness."""
+        """What to say to the peer next. Ask until the answer is neither CANCEL nor REQUEST. The word is the
+        randomness; None draws one."""
         word = _random_bits(64) if word is None else _u64(word)
         if worker >> 32:
             raise ValueError(f"{worker} isn't 0 to 2^32 - 1")
@@ -527,7 +528,7 @@ class Picker:
 
     @property
     def epoch(self) -> int:
-        """While it is the same, a peer whose answer was IDLE or NOTHING_LEFT needn't be asked again, unless its own worker told something."""
+        """While it is the same, a peer whose answer was IDLE or NOTHING_LEFT needs no further query, but after an event of its own."""
         return self._long_count(LIBRARY.piecepick_epoch)
 
     def is_had(self, piece: int) -> bool:
@@ -648,7 +649,7 @@ class Job:
     __slots__ = ("__weakref__", "_close", "_handle", "_is_open", "_lock", "_picker", "length", "piece")
 
     def __init__(self, picker: Picker, piece: int) -> None:
-        """`Picker.job` makes it."""
+        """`Picker.job_take` makes it."""
         self._is_open = False
         self._picker = picker
         self._lock = threading.Lock()

@@ -46,7 +46,7 @@ pub enum Answer {
     Dropped,
     /// The piece has its hash.
     Had,
-    /// The piece has another hash: its blocks are held no more.
+    /// The piece has another hash, or bytes were reported lost or bad: its blocks, or that one, are held no more.
     Failed,
     /// A rule refused it: mostly the peer's fault, not the caller's.
     Refused(Reason),

@@ -36,7 +36,7 @@ macro_rules! errors {
 }
 
 errors! {
-    Worker = 3, "no such worker number";
+    Worker = 3, "no such worker number, or the option workers isn't 1 to 1,024";
     Piece = 4, "no such piece";
     BitsLength = 5, "wrong bitfield length: it must have one bit per piece, rounded up to bytes";
     SpareBits = 6, "a spare bit at the end of the bitfield is set";

@@ -123,7 +123,7 @@ fn what_is_wrong_at_open_is_told() {
     assert_eq!(Picker::open_parts(0, 1, &[[0; 20]], Options::new()).map(|_| ()), Err(Error::PieceLength));
     assert_eq!(Picker::open_parts(1, 0, &[], Options::new()).map(|_| ()), Err(Error::NoContent));
     assert_eq!(Picker::open_parts(1, 2, &[[0; 20]], Options::new()).map(|_| ()), Err(Error::CountMismatch));
-    assert_eq!(Error::Worker.to_string(), "no such worker number");
+    assert_eq!(Error::Worker.to_string(), "no such worker number, or the option workers isn't 1 to 1,024");
 }
 
 #[test]
