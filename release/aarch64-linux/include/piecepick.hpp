@@ -153,6 +153,7 @@ public:
         check_interface();
         check(piecepick_open(&picker_, metainfo.data(), metainfo.size(), &options));
     }
+    /* A torrent of parts: the SHA-1 of each piece, 20 bytes each, one behind the other. */
     Picker(std::uint32_t piece_length, std::uint64_t total, Bytes digests, const Options &options = Options())
     {
         check_interface();

@@ -4,7 +4,8 @@
 
    A call returns a status, and writes its answer or its number in any case: kind 0, number 0 where the status isn't PIECEPICK_OK. A call whose
    status isn't PIECEPICK_OK has changed nothing that a later call can tell, and may be made again. A journal alone gets an entry more where
-   piecepick_job_settle says STALE or NOT_WAITING: the refusal. Of several causes the first is told, in the order in which the call lists them.
+   piecepick_job_settle says STALE or NOT_WAITING: the refusal. Of several causes the first is told: statuses before refusals, each in the order in which
+   the call lists them. At piecepick_restore NOT_JOINED comes behind WORKER and before PIECE.
    Lengths are in bytes.
 
    What the library can't test, and the caller must see to:
@@ -14,7 +15,8 @@
    - A pointer to a picker or a job starts as NULL. It is filled and freed by its own two calls alone, and isn't NULL at any other.
    - Each other pointer is valid for its call: an answer and a number may be written, a buffer has the length that is given with it, isn't NULL
      (also at length 0: pass any valid pointer) and isn't freed meanwhile. What is written lies in nothing else that is passed.
-   - One call at a time at each picker, and at each job. The library takes no lock and keeps no state of its own. So other pickers may be used
+   - One call at a time at each picker, and at each job. Where nothing is kept, the caller's lock is held over an arrival and the write of its bytes:
+     else another thread may hash the piece before they are written. The library takes no lock and keeps no state of its own. So other pickers may be used
      meanwhile, and a picker may go to another thread under the caller's lock.
    - malloc, realloc and free come from one allocator. No call is made in a signal handler, or in the forked child of a process with threads.
    - The processor has the level x86-64-v2 (SSSE3, SSE4.1), where the library wasn't built for another. */
@@ -183,7 +185,7 @@ PIECEPICK_MUST piecepick_status piecepick_haves(piecepick_picker *picker, uint32
    epoch rises, and a bitfield would come too late. NOTED, or REFUSED by NOT_JOINED. */
 PIECEPICK_MUST piecepick_status piecepick_lack(piecepick_picker *picker, uint32_t worker, uint32_t piece, piecepick_answer *answer);
 /* A block came. A picker that keeps nothing reads none of the bytes, and the caller writes them at STORED and COMPLETED alone; another one keeps
-   a copy. STORED, COMPLETED or DROPPED; REFUSED by NOT_JOINED, NO_SUCH_BLOCK or WRONG_LENGTH. */
+   a copy. A block that nobody requested is stored too: a client that doesn't want such ones remembers what it requested. STORED, COMPLETED or DROPPED; REFUSED by NOT_JOINED, NO_SUCH_BLOCK or WRONG_LENGTH. */
 PIECEPICK_MUST piecepick_status piecepick_arrived(piecepick_picker *picker, uint32_t worker, uint32_t piece, uint32_t begin, const uint8_t *bytes,
                                                   size_t bytes_len, piecepick_answer *answer);
 /* The block that begins `begin` bytes into the piece is asked of the peer no more: the peer rejected it (BEP 6), or the request was not sent. Any
@@ -267,8 +269,8 @@ PIECEPICK_MUST piecepick_status piecepick_is_complete(piecepick_picker *picker, 
 PIECEPICK_MUST piecepick_status piecepick_has_wanted(piecepick_picker *picker, uint32_t *number);  /* each wanted piece is had */
 PIECEPICK_MUST piecepick_status piecepick_is_in_order(piecepick_picker *picker, uint32_t *number); /* all pieces come in rising order */
 PIECEPICK_MUST piecepick_status piecepick_order_from(piecepick_picker *picker, uint32_t *number);  /* from which level on they do, 0 to 8 */
-/* A number that rises when a peer whose answer was IDLE or NOTHING_LEFT may have another one, though its own worker told nothing. While it is
-   the same, it needn't be asked again. */
+/* A number that rises when a peer whose answer was IDLE or NOTHING_LEFT may have another one, though its own worker reported nothing. While it is
+   the same, the picker needn't be queried for that peer again. It rises too where a peer at PIPE_FULL gets a CANCEL. */
 PIECEPICK_MUST piecepick_status piecepick_epoch(piecepick_picker *picker, uint64_t *number);
 /* Of a piece: PIECE. */
 PIECEPICK_MUST piecepick_status piecepick_is_had(piecepick_picker *picker, uint32_t piece, uint32_t *number);
@@ -278,7 +280,8 @@ PIECEPICK_MUST piecepick_status piecepick_availability(piecepick_picker *picker,
 PIECEPICK_MUST piecepick_status piecepick_piece_length(piecepick_picker *picker, uint32_t piece, uint32_t *number);
 PIECEPICK_MUST piecepick_status piecepick_blocks(piecepick_picker *picker, uint32_t piece, uint32_t *number);
 /* The worker whose peer brought a block that is held; `index` counts the piece's blocks from its front. PIECE, BLOCK, NOT_HELD. Ask it of a
-   piece whose bytes have another hash, before it is settled. */
+   piece whose bytes have another hash, before it is settled: compare with piecepick_piece_hash, and where a job tells the verdict by its settle alone,
+   note the senders before. A block from a disk has the number of the disk's worker: give no peer that number. */
 PIECEPICK_MUST piecepick_status piecepick_sender(piecepick_picker *picker, uint32_t piece, uint32_t index, uint32_t *worker);
 /* The rule by which a block was requested, a piecepick_pick_rule: for logs, and for a user who asks why. `index` is its `begin` / 16384. Ask it of
    the block of a REQUEST before the next call that tells something, which may change it. Of any other block the number means nothing. PIECE,
@@ -427,7 +430,7 @@ static inline const char *piecepick_status_text(piecepick_status status) {
     case PIECEPICK_OK: return "done";
     case PIECEPICK_E_SHUT: return "there is no picker at this pointer";
     case PIECEPICK_E_OPEN: return "the handle to be filled must start as NULL";
-    case PIECEPICK_E_WORKER: return "no such worker number";
+    case PIECEPICK_E_WORKER: return "no such worker number, or the option workers isn't 1 to 1,024";
     case PIECEPICK_E_PIECE: return "no such piece";
     case PIECEPICK_E_BITS_LENGTH: return "wrong bitfield length: it must have one bit per piece, rounded up to bytes";
     case PIECEPICK_E_SPARE_BITS: return "a spare bit at the end of the bitfield is set";
