@@ -55,7 +55,7 @@ TESTS = (
     Test("installed", ("clients/try_install.sh",), ("python3", "cc", "pkg-config", "readelf", "nm", "objcopy")),
 )
 BUILDS = (("./piecepick", "--build"), ("clients/build.sh",))
-PROOFS = (("tools/release.py", "--check"), ("rt", "ci"))
+CHECK = ("tools/release.py", "--check")
 
 
 def where() -> str | None:
@@ -110,6 +110,18 @@ def do(commands: tuple[tuple[str, ...], ...]) -> bool:
     return all(subprocess.run(words, cwd=ROOT, stdin=subprocess.DEVNULL).returncode == 0 for words in commands)
 
 
+def proves() -> bool:
+    """Runs `rt ci`, which takes no links in the repository: those of the built library are away meanwhile."""
+    links = {path: os.readlink(path) for path in (ROOT / "clients/out").rglob("*") if path.is_symlink()}
+    for path in links:
+        path.unlink()
+    try:
+        return do((("rt", "ci"),))
+    finally:
+        for path, target in links.items():
+            path.symlink_to(target)
+
+
 def main() -> int:
     words = argparse.ArgumentParser(prog="test", description="Runs all tests that need no prover.")
     words.add_argument("--proofs", action="store_true", help="prove and build what is tested, and run `rt ci` behind the tests")
@@ -122,7 +134,7 @@ def main() -> int:
     failed, left_out = verdicts.count(False), verdicts.count(None)
     passed = len(verdicts) - failed - left_out
     print(f"{passed} passed, {failed} failed, {left_out} left out, in {time.monotonic() - begin:.0f} s", flush=True)
-    return 0 if not failed and (not asked.proofs or do(PROOFS)) else 1
+    return 0 if not failed and (not asked.proofs or (do((CHECK,)) and proves())) else 1
 
 
 if __name__ == "__main__":
