@@ -2,6 +2,7 @@
 """Proves a crate and all that it stands on, lowest first, and builds it.
 
     tools/build.py CRATE [--cpu LEVEL] [--target TRIPLE]
+    tools/build.py --gate
 
 CRATE is a name of crates.txt: a program becomes crates/CRATE/out/CRATE, and a static library crates/CRATE/out/libCRATE.a. LEVEL is the
 processor's, as x86-64-v2, and TRIPLE is x86_64-unknown-linux-gnu or aarch64-unknown-linux-gnu.
@@ -9,6 +10,9 @@ processor's, as x86-64-v2, and TRIPLE is x86_64-unknown-linux-gnu or aarch64-unk
 Each library is proved once, from nothing, and lies then in its crate's out/proved. A crate above it takes what the library states, and not
 its proofs, as `rt ci` has it. So a crate waits for those below it alone, and several are proved side by side. A library stays as long as
 its sources, the toolchain and what it stands on are the same: `rt` isn't needed for that, and what `rt check` keeps isn't read.
+
+With --gate it runs `rt ci`, which proves all crates from nothing too, and keeps the libraries that this proved: what is built afterwards
+takes them. They are byte for byte those that are proved here.
 
 A line on standard error tells of each crate how long it took, and how far the whole is. What the prover prints goes to CRATE's
 out/build.log. Where a crate fails, the end of its output comes on standard error, and the status is 1.
@@ -164,8 +168,13 @@ def prove(crate: Crate, tools: Path, jobs: int) -> str:
     said = run([f"{tools}/bin/rattle", "build", *words, "--statements", "-o", str(crate.library)], crate.folder, crate.name)
     if made_from(crate, tools) != wanted:
         raise Fault(f"a source of {crate.name} has changed meanwhile: build again")
-    crate.stamp.write_text(f"{wanted} {checksum(crate.library, ('.',))}\n", encoding="utf-8")
+    keep(crate, wanted)
     return said
+
+
+def keep(crate: Crate, made: str) -> None:
+    """Says of a proved library what it was made from, and what it states."""
+    crate.stamp.write_text(f"{made} {checksum(crate.library, ('.',))}\n", encoding="utf-8")
 
 
 def build(crate: Crate, tools: Path, jobs: int, options: list[str]) -> str:
@@ -185,6 +194,22 @@ def build(crate: Crate, tools: Path, jobs: int, options: list[str]) -> str:
         said += run([*link, f"out/{crate.name}.o", f"{tools}/c/libos_c.a", f"{tools}/c/liblibc_c.a"], crate.folder, crate.name)
     stamp.write_text(wanted, encoding="utf-8")
     return said
+
+
+def prove_by_gate(known: dict[str, Crate], tools: Path) -> None:
+    """Runs `rt ci`, and keeps the libraries that it proved from the sources as they stand."""
+    of = {name: checksum(crate.folder, SOURCES) for name, crate in known.items()}
+    if subprocess.run([f"{tools}/bin/rt", "ci"], cwd=ROOT, stdin=subprocess.DEVNULL).returncode != 0:
+        raise Fault("`rt ci` has failed")
+    if any(checksum(crate.folder, SOURCES) != of[name] for name, crate in known.items()):
+        raise Fault("a source has changed meanwhile")
+    lowest_first = dict.fromkeys(crate.name for last in known.values() for crate in [*last.all_below(), last])
+    for crate in (known[name] for name in lowest_first):
+        made = crate.folder / "out/rlib" / crate.library.name
+        if made.is_dir():
+            shutil.rmtree(crate.library.parent, ignore_errors=True)
+            shutil.copytree(made, crate.library)
+            keep(crate, made_from(crate, tools))
 
 
 class Plan:
@@ -245,16 +270,20 @@ def build_all(last: Crate, tools: Path, options: list[str]) -> None:
 
 def main() -> int:
     words = argparse.ArgumentParser(description=(__doc__ or "").splitlines()[0])
-    words.add_argument("crate")
+    words.add_argument("crate", nargs="?")
+    words.add_argument("--gate", action="store_true", help="run `rt ci`, and keep the libraries that it proves")
     words.add_argument("--cpu", help="the level of processor that the code is for")
     words.add_argument("--target", help="the kind of machine that it is for")
     asked = words.parse_args()
     known = crates()
     options = [word for name in ("cpu", "target") if (value := getattr(asked, name)) for word in (f"--{name}", value)]
     try:
-        if asked.crate not in known or not (known[asked.crate].is_static or known[asked.crate].is_program):
+        if asked.gate:
+            prove_by_gate(known, kit())
+        elif asked.crate not in known or not (known[asked.crate].is_static or known[asked.crate].is_program):
             raise Fault(f"{asked.crate} is no program and no static library of crates.txt")
-        build_all(known[asked.crate], kit(), options)
+        else:
+            build_all(known[asked.crate], kit(), options)
     except Fault as fault:
         print(f"build: {fault}", file=sys.stderr)
         return 1

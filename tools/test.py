@@ -2,8 +2,8 @@
 """Runs all tests that need no prover, a line for each with its time.
 
     ./test               these tests
-    ./test --proofs      proves and builds program and library, runs these tests on both, compares them with the folder `release`, if that
-                         is of these sources, and then runs `rt ci`, which proves and tests all crates from nothing
+    ./test --proofs      runs `rt ci`, which proves and tests all crates from nothing, builds program and library of what it proved, runs these
+                         tests on both, and compares them with the folder `release`, if that is of these sources
 
 The program is the one that ./piecepick runs. The library is that of clients/out, or else that of the folder `release`. A test whose compiler
 isn't on the machine is left out, and its line says so. One that goes by the clock is tried a second time where it failed, and its line says
@@ -54,6 +54,7 @@ TESTS = (
     Test("aarch64, emulated", ("clients/try_aarch64.sh",), ("python3", "aarch64-linux-gnu-gcc", "aarch64-linux-gnu-g++", "qemu-aarch64")),
     Test("installed", ("clients/try_install.sh",), ("python3", "cc", "pkg-config", "readelf", "nm", "objcopy")),
 )
+GATE = ("tools/build.py", "--gate")
 BUILDS = (("./piecepick", "--build"), ("clients/build.sh",))
 CHECK = ("tools/release.py", "--check")
 
@@ -116,7 +117,7 @@ def proves() -> bool:
     for path in links:
         path.unlink()
     try:
-        return do((("rt", "ci"),))
+        return do((GATE,))
     finally:
         for path, target in links.items():
             path.symlink_to(target)
@@ -124,9 +125,9 @@ def proves() -> bool:
 
 def main() -> int:
     words = argparse.ArgumentParser(prog="test", description="Runs all tests that need no prover.")
-    words.add_argument("--proofs", action="store_true", help="prove and build what is tested, and run `rt ci` behind the tests")
+    words.add_argument("--proofs", action="store_true", help="run `rt ci` first, and build of what it proved what is tested")
     asked = words.parse_args()
-    if asked.proofs and not do(BUILDS):
+    if asked.proofs and not (proves() and do(BUILDS)):
         return 1
     begin = time.monotonic()
     program = where()
