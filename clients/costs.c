@@ -205,9 +205,9 @@ static int rule(void) {
     for (uint32_t i = 0; i < 1000; i++) well(piecepick_rule(picker, i, 0, &number));
     return 1000;
 }
-static int is_had(void) {
+static int has_piece(void) {
     uint32_t number = 0;
-    for (uint32_t i = 0; i < 1000; i++) well(piecepick_is_had(picker, i, &number));
+    for (uint32_t i = 0; i < 1000; i++) well(piecepick_has_piece(picker, i, &number));
     return 1000;
 }
 
@@ -222,7 +222,7 @@ static void pieces_come(void) {
         begin = now();
         well(piecepick_settle(picker, piece, &digest, &answer));
         settled += now() - begin;
-        if (answer.kind != PIECEPICK_K_HAD) exit(1);
+        if (answer.kind != PIECEPICK_K_COMPLETE) exit(1);
     }
     uint8_t *zeros = calloc(1, BLOCK * BLOCKS);
     if (!zeros) exit(1);
@@ -230,7 +230,7 @@ static void pieces_come(void) {
         begin = now();
         well(piecepick_restore(picker, 4, piece, zeros, BLOCK * BLOCKS, &digest, &answer));
         restored += now() - begin;
-        if (answer.kind != PIECEPICK_K_HAD) exit(1);
+        if (answer.kind != PIECEPICK_K_COMPLETE) exit(1);
     }
     free(zeros);
     for (uint32_t piece = 500; piece < 900; piece++) {
@@ -261,7 +261,7 @@ static const struct {
     {"next with a request, and its release", ask_and_release}, {"the same of a peer with 16 late requests", ask_with_late}, {"late", late},
     {"next, PIPE_FULL", full}, {"choke, unchoke with nothing asked", choke}, {"depth", depth},
     {"reach", reach}, {"set_level, from 4 to 5 or back", set_level}, {"set_levels that change nothing", set_levels}, {"want that changes nothing", want},
-    {"set_in_order", in_order}, {"set_in_order_from", in_order_from}, {"epoch", epoch}, {"rule", rule}, {"is_had", is_had},
+    {"set_in_order", in_order}, {"set_in_order_from", in_order_from}, {"epoch", epoch}, {"rule", rule}, {"has_piece", has_piece},
     /* From here on a peer was told to work alone, which each ask of this picker looks at. */
     {"alone", alone}, {"next with a request, and its release, once a peer worked alone", ask_and_release},
     {"the same where eight others work alone", ask_beside_alone},
@@ -314,7 +314,7 @@ static void measure_kept(uint32_t blocks) {
             for (uint32_t index = 0; index < blocks; index++) well(piecepick_arrived(picker, 0, piece, index * BLOCK, block, BLOCK, &answer));
         double took = (now() - begin) / 4096;
         if (took < least) least = took;
-        if (answer.kind != PIECEPICK_K_COMPLETED) exit(1);
+        if (answer.kind != PIECEPICK_K_FULL) exit(1);
         piecepick_close(&picker);
     }
     printf("%12.0f ns  arrived where blocks are kept, in pieces of %u blocks\n", least, blocks);

@@ -139,7 +139,7 @@ static void receive(piecepick_picker *picker, uint32_t worker, uint32_t count)
     check(piecepick_epoch(picker, &before));
     check(piecepick_arrived(picker, worker, message.block.piece, message.block.begin, zeros, message.block.length, &answer));
     twice += answer.kind == PIECEPICK_K_DROPPED;
-    if (answer.kind == PIECEPICK_K_COMPLETED) {
+    if (answer.kind == PIECEPICK_K_FULL) {
         memcpy(digest.bytes, digests + 20 * message.block.piece, sizeof digest.bytes);
         check(piecepick_settle(picker, message.block.piece, &digest, &answer));
     }

@@ -124,9 +124,9 @@ int main(int argc, char **argv)
             size_t place = (size_t)block.piece * piece_length;
             drop(peer, block.piece, block.begin);
             const uint8_t *bytes = content + place + block.begin;
-            /* The library keeps the copy that it stores. Where it keeps nothing, write the bytes at STORED and COMPLETED, and at no other answer. */
+            /* The library keeps the copy that it stores. Where it keeps nothing, write the bytes at STORED and FULL, and at no other answer. */
             check("arrived", piecepick_arrived(picker, worker, block.piece, block.begin, bytes, block.length, &answer));
-            if (answer.kind == PIECEPICK_K_COMPLETED) settle(picker, block.piece, copy + place);
+            if (answer.kind == PIECEPICK_K_FULL) settle(picker, block.piece, copy + place);
             send_all(picker, worker, peer);
         }
         check("has_wanted", piecepick_has_wanted(picker, &done));

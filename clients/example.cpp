@@ -91,9 +91,9 @@ static bool download(const char *torrent, const char *path)
         const Answer block = line.front(); /* its oldest block comes */
         line.pop_front();
         const std::size_t place = std::size_t{block.piece} * picker.piece_length(0);
-        /* The library keeps the copy that it stores. Where it keeps nothing, write the bytes at STORED and COMPLETED, and at no other answer. */
+        /* The library keeps the copy that it stores. Where it keeps nothing, write the bytes at STORED and FULL, and at no other answer. */
         const Answer answer = picker.arrived(worker, block.piece, block.begin, {&content[place + block.begin], block.length});
-        if (answer.kind == PIECEPICK_K_COMPLETED) settle(picker, block.piece, &copy[place]);
+        if (answer.kind == PIECEPICK_K_FULL) settle(picker, block.piece, &copy[place]);
         depths[worker].came(block.length, now());
         follow(picker, worker, depths[worker]);
         send_all(picker, worker, line);

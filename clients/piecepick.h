@@ -11,7 +11,7 @@
    What the library can't test, and the caller must see to:
    - A digest that is told is the SHA-1 of the bytes that it is told for (piecepick_settle, piecepick_restore), and a verdict says whether these
      have the piece's hash (piecepick_verdict). Of a block that came twice these are the bytes that came first. So where the picker keeps nothing, write a block's bytes where piecepick_arrived answers STORED or
-     COMPLETED, and at no other answer. What is DROPPED is thrown away. Else a good piece fails, and piecepick_sender names an honest peer.
+     FULL, and at no other answer. What is DROPPED is thrown away. Else a good piece fails, and piecepick_sender names an honest peer.
    - A pointer to a picker or a job starts as NULL. It is filled and freed by its own two calls alone, and isn't NULL at any other.
    - Each other pointer is valid for its call: an answer and a number may be written, a buffer has the length that is given with it, isn't NULL
      (also at length 0: pass any valid pointer) and isn't freed meanwhile. What is written lies in nothing else that is passed.
@@ -47,7 +47,7 @@ typedef struct piecepick_job piecepick_job;
 
 typedef enum piecepick_status {
     PIECEPICK_OK = 0,
-    PIECEPICK_E_SHUT = 1,         /* there is no picker at the pointer: for wrappers, since no call at a pointer that was opened answers it */
+    PIECEPICK_E_CLOSED = 1,         /* there is no picker at the pointer: for wrappers, since no call at a pointer that was opened answers it */
     PIECEPICK_E_OPEN = 2,         /* the handle to be filled must start as NULL */
     PIECEPICK_E_WORKER = 3,       /* no such worker number; at open: the option `workers` isn't 1 to 1,024 */
     PIECEPICK_E_PIECE = 4,        /* no such piece */
@@ -55,7 +55,7 @@ typedef enum piecepick_status {
     PIECEPICK_E_SPARE_BITS = 6,   /* a spare bit at the end of the bitfield is set */
     PIECEPICK_E_LENGTH = 7,       /* wrong buffer length: it must be exactly that of the item */
     PIECEPICK_E_MEMORY = 8,       /* out of memory */
-    PIECEPICK_E_NOT_HAD = 9,      /* the piece isn't complete */
+    PIECEPICK_E_INCOMPLETE = 9,      /* the piece isn't complete */
     PIECEPICK_E_RULES = 10,       /* depth, deepest, askers, random, open, rush or shown is out of its range */
     PIECEPICK_E_NOT_WAITING = 11, /* the piece isn't waiting for a check: a block is lacking, or it is complete */
     PIECEPICK_E_NO_JOB = 12,      /* there is no job at the pointer: for wrappers too */
@@ -89,9 +89,9 @@ typedef enum piecepick_kind {
     PIECEPICK_K_IDLE = 8,        /* nothing to ask now, though the peer has a wanted piece that isn't had */
     PIECEPICK_K_NOTHING_LEFT = 9,/* the peer shows no wanted piece that isn't had */
     PIECEPICK_K_STORED = 10,     /* the block is held: where nothing is kept, write its bytes now */
-    PIECEPICK_K_COMPLETED = 11,  /* stored, and its piece is full now: write them too, and check the piece */
+    PIECEPICK_K_FULL = 11,  /* stored, and its piece is full now: write them too, and check the piece */
     PIECEPICK_K_DROPPED = 12,    /* the block was held already: it came twice, and these bytes are written nowhere */
-    PIECEPICK_K_HAD = 13,        /* the piece has its hash */
+    PIECEPICK_K_COMPLETE = 13,        /* the piece has its hash */
     PIECEPICK_K_FAILED = 14,     /* the piece has another hash, or you said that bytes are gone or bad: its blocks, or that one, are held no more */
     PIECEPICK_K_REFUSED = 15     /* by a rule, which `reason` names: mostly the peer's fault, not the caller's */
 } piecepick_kind;
@@ -103,7 +103,7 @@ typedef enum piecepick_reason {
     PIECEPICK_R_LATE_BITS = 3,     /* a bitfield must be a peer's first message: report it by piecepick_haves */
     PIECEPICK_R_WRONG_COUNT = 4, PIECEPICK_R_NO_SUCH_PIECE = 5, PIECEPICK_R_NO_SUCH_BLOCK = 6, PIECEPICK_R_WRONG_LENGTH = 7,
     PIECEPICK_R_NOT_WAITING = 8, PIECEPICK_R_STALE = 9,
-    PIECEPICK_R_NOT_ASKED = 10,    /* the block isn't requested from this peer */
+    PIECEPICK_R_NOT_REQUESTED = 10,    /* the block isn't requested from this peer */
     PIECEPICK_R_WRONG_DEPTH = 11,  /* a depth of 0, or beyond `deepest` */
     PIECEPICK_R_WRONG_LEVEL = 12   /* a level or a reach above 7, or an order from a level above 8 */
 } piecepick_reason;
@@ -184,19 +184,19 @@ PIECEPICK_MUST piecepick_status piecepick_haves(piecepick_picker *picker, uint32
    of it no more, as by piecepick_release, and no cancel follows. What is held stays held. A piece that the peer doesn't show is no error: the
    epoch rises, and a bitfield would come too late. NOTED, or REFUSED by NOT_JOINED. */
 PIECEPICK_MUST piecepick_status piecepick_lack(piecepick_picker *picker, uint32_t worker, uint32_t piece, piecepick_answer *answer);
-/* A block came. A picker that keeps nothing reads none of the bytes, and the caller writes them at STORED and COMPLETED alone; another one keeps
-   a copy. A block that nobody requested is stored too: a client that doesn't want such ones remembers what it requested. STORED, COMPLETED or DROPPED; REFUSED by NOT_JOINED, NO_SUCH_BLOCK or WRONG_LENGTH. */
+/* A block came. A picker that keeps nothing reads none of the bytes, and the caller writes them at STORED and FULL alone; another one keeps
+   a copy. A block that nobody requested is stored too: a client that doesn't want such ones remembers what it requested. STORED, FULL or DROPPED; REFUSED by NOT_JOINED, NO_SUCH_BLOCK or WRONG_LENGTH. */
 PIECEPICK_MUST piecepick_status piecepick_arrived(piecepick_picker *picker, uint32_t worker, uint32_t piece, uint32_t begin, const uint8_t *bytes,
                                                   size_t bytes_len, piecepick_answer *answer);
 /* The block that begins `begin` bytes into the piece is asked of the peer no more: the peer rejected it (BEP 6), or the request was not sent. Any
-   peer may be asked for it again, and it is kept if it comes after all. QUIET, or REFUSED by NOT_JOINED or NOT_ASKED. */
+   peer may be asked for it again, and it is kept if it comes after all. QUIET, or REFUSED by NOT_JOINED or NOT_REQUESTED. */
 PIECEPICK_MUST piecepick_status piecepick_release(piecepick_picker *picker, uint32_t worker, uint32_t piece, uint32_t begin, piecepick_answer *answer);
 /* A request takes too long: late. It was rejected, or never sent: release. The block that begins there stays asked of the peer, and counts for its
    depth. For all other peers it is as if it had been released: one of them may be asked for it at once, before endgame. When another one brings
    it, a cancel is due at this peer as ever. While the request lasts, this peer isn't asked for the block again, not in endgame either. It may be
    asked for others of the piece. Late blocks come in the order of their pieces, like any block that isn't requested, and `rush` doesn't bound them.
    The mark ends with the request: when the block comes from anybody, or at a choke, a leave, a release or a lack.
-   Told twice it is as once. QUIET, or REFUSED by NOT_JOINED or NOT_ASKED. */
+   Told twice it is as once. QUIET, or REFUSED by NOT_JOINED or NOT_REQUESTED. */
 PIECEPICK_MUST piecepick_status piecepick_late(piecepick_picker *picker, uint32_t worker, uint32_t piece, uint32_t begin, piecepick_answer *answer);
 /* From now on `depth` blocks may be asked of the peer at a time, until another number is told or the worker's next peer joins. What is asked
    stays asked: where that is as many or more, the answer to a query is PIPE_FULL. QUIET, or REFUSED by NOT_JOINED or WRONG_DEPTH. */
@@ -240,20 +240,20 @@ PIECEPICK_MUST piecepick_status piecepick_lose(piecepick_picker *picker, uint32_
    by NOT_WAITING where the piece is complete: lose that. PIECE; KEEPS where a journal is kept. */
 PIECEPICK_MUST piecepick_status piecepick_discard(piecepick_picker *picker, uint32_t piece, uint32_t begin, piecepick_answer *answer);
 
-/* KEEPS_NOTHING: the piece is full, and this is the SHA-1 of its blocks as they were stored. HAD or FAILED. KEEPS, PIECE, NOT_WAITING. */
+/* KEEPS_NOTHING: the piece is full, and this is the SHA-1 of its blocks as they were stored. COMPLETE or FAILED. KEEPS, PIECE, NOT_WAITING. */
 PIECEPICK_MUST piecepick_status piecepick_settle(piecepick_picker *picker, uint32_t piece, const piecepick_digest *digest, piecepick_answer *answer);
 /* KEEPS_NOTHING: the piece is full, and you compared its hash yourself: `passed` isn't 0 where its blocks, as they were stored, have the hash of
-   the metainfo file. HAD or FAILED. KEEPS, PIECE, NOT_WAITING. Where the disk couldn't be read nothing is known of the hash: tell
+   the metainfo file. COMPLETE or FAILED. KEEPS, PIECE, NOT_WAITING. Where the disk couldn't be read nothing is known of the hash: tell
    piecepick_discard of each block, so that all are asked for again. */
 PIECEPICK_MUST piecepick_status piecepick_verdict(piecepick_picker *picker, uint32_t piece, uint32_t passed, piecepick_answer *answer);
 /* KEEPS_NOTHING: the whole piece is on a disk, for which this worker stands; it has joined, and shows nothing. The digest is the SHA-1 of the
-   bytes, of which none is read: a mapping of the file costs no reading. HAD, FAILED, or REFUSED by NOT_JOINED. KEEPS, WORKER, PIECE, LENGTH,
+   bytes, of which none is read: a mapping of the file costs no reading. COMPLETE, FAILED, or REFUSED by NOT_JOINED. KEEPS, WORKER, PIECE, LENGTH,
    BEGUN. Blocks of a piece that isn't whole are told by piecepick_arrived, and stay held behind the worker's leave. */
 PIECEPICK_MUST piecepick_status piecepick_restore(piecepick_picker *picker, uint32_t worker, uint32_t piece, const uint8_t *bytes, size_t bytes_len,
                                                   const piecepick_digest *digest, piecepick_answer *answer);
 
 /* KEEPS_BEGUN and KEEPS_JOURNAL: the check of a full piece, away from its picker. `take` fills a NULL pointer (OPEN, KEEPS, PIECE, NOT_WAITING,
-   MEMORY). `hash` needs no picker, so no lock (MEMORY). `settle` tells the verdict: HAD or FAILED (NOT_HASHED, KEEPS, STALE,
+   MEMORY). `hash` needs no picker, so no lock (MEMORY). `settle` tells the verdict: COMPLETE or FAILED (NOT_HASHED, KEEPS, STALE,
    NOT_WAITING, MEMORY). `read` writes the bytes of the piece into a room of just their length, before or behind that (LENGTH). `close` frees the job, before
    or after its picker; the pointer is NULL then. */
 PIECEPICK_MUST piecepick_status piecepick_job_take(piecepick_picker *picker, uint32_t piece, piecepick_job **job);
@@ -273,7 +273,7 @@ PIECEPICK_MUST piecepick_status piecepick_order_from(piecepick_picker *picker, u
    the same, the picker needn't be queried for that peer again. It rises too where a peer at PIPE_FULL gets a CANCEL. */
 PIECEPICK_MUST piecepick_status piecepick_epoch(piecepick_picker *picker, uint64_t *number);
 /* Of a piece: PIECE. */
-PIECEPICK_MUST piecepick_status piecepick_is_had(piecepick_picker *picker, uint32_t piece, uint32_t *number);
+PIECEPICK_MUST piecepick_status piecepick_has_piece(piecepick_picker *picker, uint32_t piece, uint32_t *number);
 PIECEPICK_MUST piecepick_status piecepick_is_waiting(piecepick_picker *picker, uint32_t piece, uint32_t *number); /* full, and not had */
 PIECEPICK_MUST piecepick_status piecepick_level(piecepick_picker *picker, uint32_t piece, uint32_t *number);
 PIECEPICK_MUST piecepick_status piecepick_availability(piecepick_picker *picker, uint32_t piece, uint32_t *number); /* joined peers that show it */
@@ -322,9 +322,9 @@ PIECEPICK_MUST piecepick_status piecepick_hash_four(const uint8_t *first, size_t
 
 /* ---- KEEPS_JOURNAL alone: for simulators and audits. Its memory is all content, and some 80 bytes for each call. */
 
-/* Hashes a full piece, here and now. HAD or FAILED. KEEPS, PIECE, NOT_WAITING, MEMORY. */
+/* Hashes a full piece, here and now. COMPLETE or FAILED. KEEPS, PIECE, NOT_WAITING, MEMORY. */
 PIECEPICK_MUST piecepick_status piecepick_settle_now(piecepick_picker *picker, uint32_t piece, piecepick_answer *answer);
-/* Writes a had piece into a room of just its length, and takes no memory. KEEPS, PIECE, NOT_HAD, LENGTH: then nothing is written. */
+/* Writes a had piece into a room of just its length, and takes no memory. KEEPS, PIECE, INCOMPLETE, LENGTH: then nothing is written. */
 PIECEPICK_MUST piecepick_status piecepick_read(piecepick_picker *picker, uint32_t piece, uint8_t *room, size_t room_len);
 /* Goes over the journal of all calls by the picker's rules. No journal fails it: KEEPS, MEMORY. */
 PIECEPICK_MUST piecepick_status piecepick_audit(piecepick_picker *picker);
@@ -428,7 +428,7 @@ static inline uint32_t piecepick_depth_by_rate_follow(piecepick_depth_by_rate *p
 static inline const char *piecepick_status_text(piecepick_status status) {
     switch (status) {
     case PIECEPICK_OK: return "done";
-    case PIECEPICK_E_SHUT: return "there is no picker at this pointer";
+    case PIECEPICK_E_CLOSED: return "there is no picker at this pointer";
     case PIECEPICK_E_OPEN: return "the handle to be filled must start as NULL";
     case PIECEPICK_E_WORKER: return "no such worker number, or the option workers isn't 1 to 1,024";
     case PIECEPICK_E_PIECE: return "no such piece";
@@ -436,7 +436,7 @@ static inline const char *piecepick_status_text(piecepick_status status) {
     case PIECEPICK_E_SPARE_BITS: return "a spare bit at the end of the bitfield is set";
     case PIECEPICK_E_LENGTH: return "wrong buffer length: it must be exactly that of the item";
     case PIECEPICK_E_MEMORY: return "out of memory";
-    case PIECEPICK_E_NOT_HAD: return "the piece isn't complete";
+    case PIECEPICK_E_INCOMPLETE: return "the piece isn't complete";
     case PIECEPICK_E_RULES: return "an option is out of its range: depth, deepest, askers, random, open, rush or shown";
     case PIECEPICK_E_NOT_WAITING: return "the piece isn't waiting for a check: a block is lacking, or it is complete";
     case PIECEPICK_E_NO_JOB: return "there is no job at this pointer";
@@ -477,9 +477,9 @@ static inline const char *piecepick_kind_text(piecepick_kind kind) {
     case PIECEPICK_K_IDLE: return "idle";
     case PIECEPICK_K_NOTHING_LEFT: return "nothing left";
     case PIECEPICK_K_STORED: return "stored";
-    case PIECEPICK_K_COMPLETED: return "completed";
+    case PIECEPICK_K_FULL: return "completed";
     case PIECEPICK_K_DROPPED: return "dropped";
-    case PIECEPICK_K_HAD: return "had";
+    case PIECEPICK_K_COMPLETE: return "had";
     case PIECEPICK_K_FAILED: return "failed";
     case PIECEPICK_K_REFUSED: return "refused";
     }
@@ -498,7 +498,7 @@ static inline const char *piecepick_reason_text(piecepick_reason reason) {
     case PIECEPICK_R_WRONG_LENGTH: return "wrong block length";
     case PIECEPICK_R_NOT_WAITING: return "the piece isn't waiting for a check: a block is lacking, or it is complete";
     case PIECEPICK_R_STALE: return "the bytes that were hashed aren't those that the picker holds now";
-    case PIECEPICK_R_NOT_ASKED: return "the block isn't requested from this peer";
+    case PIECEPICK_R_NOT_REQUESTED: return "the block isn't requested from this peer";
     case PIECEPICK_R_WRONG_DEPTH: return "the depth must be 1 to the option deepest";
     case PIECEPICK_R_WRONG_LEVEL: return "a level is out of its range: 0 to 7, or 0 to 8 for the order";
     }

@@ -145,7 +145,7 @@ private:
     piecepick_job *job_ = nullptr;
 };
 
-/* The picker of one download. One that was moved from is empty, and its calls throw SHUT. */
+/* The picker of one download. One that was moved from is empty, and its calls throw CLOSED. */
 class Picker {
 public:
     explicit Picker(Bytes metainfo, const Options &options = Options())
@@ -218,7 +218,7 @@ public:
     [[nodiscard]] bool is_in_order() { return number(piecepick_is_in_order) != 0; }
     [[nodiscard]] std::uint32_t order_from() { return number(piecepick_order_from); }
     [[nodiscard]] std::uint64_t epoch() { return number<std::uint64_t>(piecepick_epoch); }
-    [[nodiscard]] bool is_had(std::uint32_t piece) { return number(piecepick_is_had, piece) != 0; }
+    [[nodiscard]] bool has_piece(std::uint32_t piece) { return number(piecepick_has_piece, piece) != 0; }
     [[nodiscard]] bool is_waiting(std::uint32_t piece) { return number(piecepick_is_waiting, piece) != 0; }
     [[nodiscard]] std::uint32_t level(std::uint32_t piece) { return number(piecepick_level, piece); }
     [[nodiscard]] std::uint32_t availability(std::uint32_t piece) { return number(piecepick_availability, piece); }
@@ -256,7 +256,7 @@ public:
     /* For the calls of piecepick.h. */
     ::piecepick_picker *get() const
     {
-        if (picker_ == nullptr) throw Error(PIECEPICK_E_SHUT);
+        if (picker_ == nullptr) throw Error(PIECEPICK_E_CLOSED);
         return picker_;
     }
 

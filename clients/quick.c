@@ -62,8 +62,8 @@ static void fill(uint32_t peer)
 static void block_came(uint32_t peer, uint32_t piece, uint32_t begin, const uint8_t *bytes, uint32_t length)
 {
     must(piecepick_arrived(picker, peer, piece, begin, bytes, length, &answer));
-    if (answer.kind == PIECEPICK_K_STORED || answer.kind == PIECEPICK_K_COMPLETED) write_block(piece, begin, bytes, length);
-    if (answer.kind == PIECEPICK_K_COMPLETED) {
+    if (answer.kind == PIECEPICK_K_STORED || answer.kind == PIECEPICK_K_FULL) write_block(piece, begin, bytes, length);
+    if (answer.kind == PIECEPICK_K_FULL) {
         piecepick_digest digest = digest_of(piece); /* the SHA-1 of what was written */
         must(piecepick_settle(picker, piece, &digest, &answer));
     }

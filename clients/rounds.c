@@ -112,7 +112,7 @@ static void oldest_comes(uint32_t worker) {
     place came = taken(&peers[worker], 0);
     well(piecepick_arrived(picker, worker, came.piece, came.begin, block, BLOCK, &answer));
     arrivals++;
-    if (answer.kind != PIECEPICK_K_COMPLETED) return;
+    if (answer.kind != PIECEPICK_K_FULL) return;
     well(piecepick_settle(picker, came.piece, &digest, &answer));
     complete++;
 }

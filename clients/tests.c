@@ -249,7 +249,7 @@ static piecepick_kind settle(piecepick_picker *picker, uint32_t keeps, uint32_t 
 static piecepick_kind bring_whole(piecepick_picker *picker, uint32_t keeps, uint32_t worker, uint32_t piece)
 {
     for (uint32_t begin = 0; begin < length_of(piece); begin += BLOCK)
-        EQUAL(bring(picker, worker, piece, begin, 0), begin + BLOCK < length_of(piece) ? PIECEPICK_K_STORED : PIECEPICK_K_COMPLETED);
+        EQUAL(bring(picker, worker, piece, begin, 0), begin + BLOCK < length_of(piece) ? PIECEPICK_K_STORED : PIECEPICK_K_FULL);
     return settle(picker, keeps, piece, 0);
 }
 
@@ -261,7 +261,7 @@ static uint64_t mixed(uint64_t sum, uint64_t number) { return (sum ^ number) * 0
 static uint64_t still_picture(piecepick_picker *picker)
 {
     typedef piecepick_status question(piecepick_picker * picker, uint32_t piece, uint32_t * number);
-    static question *const QUESTIONS[] = {piecepick_is_had, piecepick_is_waiting, piecepick_level, piecepick_availability};
+    static question *const QUESTIONS[] = {piecepick_has_piece, piecepick_is_waiting, piecepick_level, piecepick_availability};
     uint64_t sum = 0xcbf29ce484222325u;
     uint32_t number, workers, count;
     piecepick_answer answer;
@@ -598,7 +598,7 @@ static void try_torrent(const char *infohash, const char *name)
                 NUMBER(piecepick_piece_length(picker, piece, &number), length_of(piece));
                 NUMBER(piecepick_blocks(picker, piece, &number), blocks_of(piece));
                 NUMBER(piecepick_level(picker, piece, &number), 4);
-                NUMBER(piecepick_is_had(picker, piece, &number), 0);
+                NUMBER(piecepick_has_piece(picker, piece, &number), 0);
                 NUMBER(piecepick_is_waiting(picker, piece, &number), 0);
                 NUMBER(piecepick_availability(picker, piece, &number), 0);
             }
@@ -713,7 +713,7 @@ static void no_piece(piecepick_picker *picker, uint32_t keeps, uint32_t piece)
     piecepick_status status;
     uint32_t number;
     for (size_t at = 0; at < sizeof AT_PIECE / sizeof *AT_PIECE; at++) NO_ANSWER(AT_PIECE[at](picker, piece, &answer), PIECEPICK_E_PIECE);
-    NO_NUMBER(piecepick_is_had(picker, piece, &number), PIECEPICK_E_PIECE);
+    NO_NUMBER(piecepick_has_piece(picker, piece, &number), PIECEPICK_E_PIECE);
     NO_NUMBER(piecepick_is_waiting(picker, piece, &number), PIECEPICK_E_PIECE);
     NO_NUMBER(piecepick_level(picker, piece, &number), PIECEPICK_E_PIECE);
     NO_NUMBER(piecepick_availability(picker, piece, &number), PIECEPICK_E_PIECE);
@@ -784,7 +784,7 @@ static void try_statuses(uint32_t keeps)
     NO_ANSWER(piecepick_settle_now(picker, 1, &answer), is_journal ? PIECEPICK_E_NOT_WAITING : PIECEPICK_E_KEEPS);
     EQUAL(piecepick_job_take(picker, 1, &job), is_nothing ? PIECEPICK_E_KEEPS : PIECEPICK_E_NOT_WAITING);
     EQUAL(job == NULL, 1);
-    EQUAL(piecepick_read(picker, 1, room, PIECE), is_journal ? PIECEPICK_E_NOT_HAD : PIECEPICK_E_KEEPS);
+    EQUAL(piecepick_read(picker, 1, room, PIECE), is_journal ? PIECEPICK_E_INCOMPLETE : PIECEPICK_E_KEEPS);
     EQUAL(piecepick_audit(picker), is_journal ? PIECEPICK_OK : PIECEPICK_E_KEEPS);
     NO_NUMBER(piecepick_sender(picker, 1, 0, &number), PIECEPICK_E_NOT_HELD);
     NO_NUMBER(piecepick_sender(picker, 1, blocks_of(1), &number), PIECEPICK_E_BLOCK);
@@ -824,10 +824,10 @@ static void try_statuses(uint32_t keeps)
     REFUSED(piecepick_arrived(picker, 0, 1, 0, content, BLOCK + 1, &answer), PIECEPICK_R_WRONG_LENGTH);
     REFUSED(piecepick_arrived(picker, 0, 1, 0, content, 0, &answer), PIECEPICK_R_WRONG_LENGTH);
     REFUSED(piecepick_arrived(picker, 0, pieces - 1, 0, content, BLOCK, &answer), PIECEPICK_R_WRONG_LENGTH);
-    REFUSED(piecepick_release(picker, 0, 0, 1, &answer), PIECEPICK_R_NOT_ASKED);
-    REFUSED(piecepick_release(picker, 0, 0, MORE, &answer), PIECEPICK_R_NOT_ASKED);
-    REFUSED(piecepick_late(picker, 0, 0, 1, &answer), PIECEPICK_R_NOT_ASKED);
-    REFUSED(piecepick_late(picker, 0, 0, MORE, &answer), PIECEPICK_R_NOT_ASKED);
+    REFUSED(piecepick_release(picker, 0, 0, 1, &answer), PIECEPICK_R_NOT_REQUESTED);
+    REFUSED(piecepick_release(picker, 0, 0, MORE, &answer), PIECEPICK_R_NOT_REQUESTED);
+    REFUSED(piecepick_late(picker, 0, 0, 1, &answer), PIECEPICK_R_NOT_REQUESTED);
+    REFUSED(piecepick_late(picker, 0, 0, MORE, &answer), PIECEPICK_R_NOT_REQUESTED);
     EQUAL(picture(picker), before);
     if (is_journal) EQUAL(piecepick_audit(picker), PIECEPICK_OK);
     piecepick_close(&picker);
@@ -869,7 +869,7 @@ static void try_wire(uint32_t keeps)
     }
     GETS(piecepick_next(picker, 0, 5, &answer), PIECEPICK_K_PIPE_FULL);
     QUIET(piecepick_release(picker, 0, request[1].piece, request[1].begin, &answer));
-    REFUSED(piecepick_release(picker, 0, request[1].piece, request[1].begin, &answer), PIECEPICK_R_NOT_ASKED);
+    REFUSED(piecepick_release(picker, 0, request[1].piece, request[1].begin, &answer), PIECEPICK_R_NOT_REQUESTED);
     NUMBER(piecepick_outstanding(picker, 0, &number), 4);
     BLOCKS(piecepick_outstanding_at(picker, 0, 1, &answer), PIECEPICK_K_REQUEST, request[2].piece, request[2].begin);
     EQUAL(piecepick_next(picker, 0, 6, &answer), PIECEPICK_OK);
@@ -920,26 +920,26 @@ static void try_pieces(uint32_t keeps)
     GETS(piecepick_next(picker, 0, 9, &answer), PIECEPICK_K_IDLE);
     EQUAL(bring(picker, 0, 2, 0, 0), PIECEPICK_K_STORED);
     NUMBER(piecepick_is_waiting(picker, 2, &number), 0);
-    EQUAL(bring(picker, 0, 2, BLOCK, 1), PIECEPICK_K_COMPLETED);
+    EQUAL(bring(picker, 0, 2, BLOCK, 1), PIECEPICK_K_FULL);
     NUMBER(piecepick_is_waiting(picker, 2, &number), 1);
-    NUMBER(piecepick_is_had(picker, 2, &number), 0);
+    NUMBER(piecepick_has_piece(picker, 2, &number), 0);
     GETS(piecepick_next(picker, 0, 9, &answer), PIECEPICK_K_IDLE); /* a full piece isn't had yet */
     EQUAL(settle(picker, keeps, 2, 1), PIECEPICK_K_FAILED);
     NUMBER(piecepick_is_waiting(picker, 2, &number), 0);
-    NUMBER(piecepick_is_had(picker, 2, &number), 0);
-    EQUAL(bring_whole(picker, keeps, 0, 2), PIECEPICK_K_HAD);
+    NUMBER(piecepick_has_piece(picker, 2, &number), 0);
+    EQUAL(bring_whole(picker, keeps, 0, 2), PIECEPICK_K_COMPLETE);
     NUMBER(piecepick_is_waiting(picker, 2, &number), 0);
-    NUMBER(piecepick_is_had(picker, 2, &number), 1);
+    NUMBER(piecepick_has_piece(picker, 2, &number), 1);
     NUMBER(piecepick_has_wanted(picker, &number), 1);
     NUMBER(piecepick_is_complete(picker, &number), 0);
     GETS(piecepick_next(picker, 0, 9, &answer), PIECEPICK_K_NOTHING_LEFT);
     EQUAL(bring(picker, 0, 2, 0, 0), PIECEPICK_K_DROPPED);
     /* A piece that isn't wanted comes all the same. */
-    EQUAL(bring_whole(picker, keeps, 0, pieces - 1), PIECEPICK_K_HAD);
+    EQUAL(bring_whole(picker, keeps, 0, pieces - 1), PIECEPICK_K_COMPLETE);
     QUIET(piecepick_want(picker, all, flags_len, &answer));
     NUMBER(piecepick_has_wanted(picker, &number), 0);
     for (uint32_t piece = 0; piece < pieces; piece++)
-        if (piece != 2 && piece != pieces - 1) EQUAL(bring_whole(picker, keeps, 0, piece), PIECEPICK_K_HAD);
+        if (piece != 2 && piece != pieces - 1) EQUAL(bring_whole(picker, keeps, 0, piece), PIECEPICK_K_COMPLETE);
     NUMBER(piecepick_has_wanted(picker, &number), 1);
     NUMBER(piecepick_is_complete(picker, &number), 1);
     NOTED(piecepick_have(picker, 0, 1, &answer), 0);
@@ -1387,7 +1387,7 @@ static void try_lacks(uint32_t keeps)
     NUMBER(piecepick_availability(picker, 1, &number), 2);
     NUMBER(piecepick_outstanding(picker, 0, &number), 2);
     EQUAL(in_flight_of(picker, 0, 1), 2);
-    REFUSED(piecepick_release(picker, 0, 0, BLOCK, &answer), PIECEPICK_R_NOT_ASKED);
+    REFUSED(piecepick_release(picker, 0, 0, BLOCK, &answer), PIECEPICK_R_NOT_REQUESTED);
     GETS(piecepick_next(picker, 0, 3, &answer), PIECEPICK_K_IDLE); /* no cancel */
     NUMBER(piecepick_sender(picker, 0, 0, &number), 0);            /* what it brought stays held */
     BLOCKS(piecepick_next(picker, 1, 3, &answer), PIECEPICK_K_REQUEST, 0, BLOCK);
@@ -1401,9 +1401,9 @@ static void try_lacks(uint32_t keeps)
     /* The peer drops the piece once more, and its block comes all the same: it is stored, and cancelled at the other peer. */
     NOTED(piecepick_lack(picker, 0, 0, &answer), 1);
     BLOCKS(piecepick_next(picker, 1, 3, &answer), PIECEPICK_K_REQUEST, 0, BLOCK);
-    EQUAL(bring(picker, 0, 0, BLOCK, 0), PIECEPICK_K_COMPLETED);
+    EQUAL(bring(picker, 0, 0, BLOCK, 0), PIECEPICK_K_FULL);
     BLOCKS(piecepick_next(picker, 1, 3, &answer), PIECEPICK_K_CANCEL, 0, BLOCK);
-    EQUAL(settle(picker, keeps, 0, 0), PIECEPICK_K_HAD);
+    EQUAL(settle(picker, keeps, 0, 0), PIECEPICK_K_COMPLETE);
     /* Nothing is left at it. */
     NOTED(piecepick_lack(picker, 0, 1, &answer), 0);
     NUMBER(piecepick_outstanding(picker, 0, &number), 0);
@@ -1412,7 +1412,7 @@ static void try_lacks(uint32_t keeps)
     /* A piece that is had is of no interest, dropped or not. The set of a `haves` takes back what was dropped. */
     NOTED(piecepick_have(picker, 0, 0, &answer), 0);
     NOTED(piecepick_lack(picker, 0, 0, &answer), 0);
-    NUMBER(piecepick_is_had(picker, 0, &number), 1);
+    NUMBER(piecepick_has_piece(picker, 0, &number), 1);
     NOTED(piecepick_haves(picker, 0, two, flags_len, &answer), 1);
     NUMBER(piecepick_availability(picker, 0, &number), 2);
     NUMBER(piecepick_availability(picker, 1, &number), 2);
@@ -1500,7 +1500,7 @@ static void try_rules(uint32_t keeps)
     QUIET(piecepick_depth(picker, 0, 64, &answer));
     asks_by(picker, 0, 1, 1, 0, PIECEPICK_RULE_RANDOM); /* though others are rarer */
     asks_by(picker, 0, 1, 1, BLOCK, PIECEPICK_RULE_BEGUN);
-    EQUAL(bring_whole(picker, keeps, 0, 1), PIECEPICK_K_HAD);
+    EQUAL(bring_whole(picker, keeps, 0, 1), PIECEPICK_K_COMPLETE);
     asks_by(picker, 0, 1, 2, 0, PIECEPICK_RULE_RAREST);
     QUIET(piecepick_release(picker, 0, 2, 0, &answer)); /* then the piece is unbegun again */
     asks_by(picker, 0, 1, 2, 0, PIECEPICK_RULE_RAREST);
@@ -1587,18 +1587,18 @@ static void try_late(uint32_t keeps)
     asks_by(picker, 1, 0, 1, 0, PIECEPICK_RULE_RANDOM);
     EQUAL(bring(picker, 1, 0, 0, 0), PIECEPICK_K_STORED);
     NUMBER(piecepick_outstanding(picker, 0, &number), 1);
-    REFUSED(piecepick_late(picker, 0, 0, 0, &answer), PIECEPICK_R_NOT_ASKED);
+    REFUSED(piecepick_late(picker, 0, 0, 0, &answer), PIECEPICK_R_NOT_REQUESTED);
     BLOCKS(piecepick_next(picker, 0, 0, &answer), PIECEPICK_K_CANCEL, 0, 0);
     asks_by(picker, 0, 0, 1, BLOCK, PIECEPICK_RULE_BEGUN);
     /* Its own peer brings the block: no cancel is due there, but one at the other peer that was asked for it. */
     QUIET(piecepick_late(picker, 0, 0, BLOCK, &answer));
     asks_by(picker, 1, 0, 0, BLOCK, PIECEPICK_RULE_LATE);
-    EQUAL(bring(picker, 0, 0, BLOCK, 0), PIECEPICK_K_COMPLETED);
+    EQUAL(bring(picker, 0, 0, BLOCK, 0), PIECEPICK_K_FULL);
     NUMBER(piecepick_sender(picker, 0, 1, &number), 0);
     BLOCKS(piecepick_next(picker, 1, 0, &answer), PIECEPICK_K_CANCEL, 0, BLOCK);
     asks_by(picker, 1, 2, 2, 0, PIECEPICK_RULE_RANDOM);
     asks_by(picker, 0, 2, 2, BLOCK, PIECEPICK_RULE_BEGUN);
-    EQUAL(settle(picker, keeps, 0, 0), PIECEPICK_K_HAD);
+    EQUAL(settle(picker, keeps, 0, 0), PIECEPICK_K_COMPLETE);
     /* Nobody else was asked for it: no cancel anywhere. */
     QUIET(piecepick_late(picker, 1, 2, 0, &answer));
     EQUAL(bring(picker, 1, 2, 0, 0), PIECEPICK_K_STORED);
@@ -1626,11 +1626,11 @@ static void try_late_depths(uint32_t keeps)
     REFUSED(piecepick_late(picker, 0, 0, 0, &answer), PIECEPICK_R_NOT_JOINED);
     come(picker, 0);
     come(picker, 1);
-    REFUSED(piecepick_late(picker, 0, 0, 0, &answer), PIECEPICK_R_NOT_ASKED);
+    REFUSED(piecepick_late(picker, 0, 0, 0, &answer), PIECEPICK_R_NOT_REQUESTED);
     QUIET(piecepick_depth(picker, 0, 1, &answer));
     asks_by(picker, 0, 0, 0, 0, PIECEPICK_RULE_RANDOM);
-    REFUSED(piecepick_late(picker, 1, 0, 0, &answer), PIECEPICK_R_NOT_ASKED); /* another peer is asked for it */
-    REFUSED(piecepick_late(picker, 0, 0, BLOCK, &answer), PIECEPICK_R_NOT_ASKED);
+    REFUSED(piecepick_late(picker, 1, 0, 0, &answer), PIECEPICK_R_NOT_REQUESTED); /* another peer is asked for it */
+    REFUSED(piecepick_late(picker, 0, 0, BLOCK, &answer), PIECEPICK_R_NOT_REQUESTED);
     QUIET(piecepick_late(picker, 0, 0, 0, &answer));
     GETS(piecepick_next(picker, 0, 0, &answer), PIECEPICK_K_PIPE_FULL);
     before = still_picture(picker);
@@ -1650,7 +1650,7 @@ static void try_late_depths(uint32_t keeps)
     BLOCKS(piecepick_next(picker, 0, 0, &answer), PIECEPICK_K_CANCEL, 0, 0);
     asks_by(picker, 0, 2, 2, 0, PIECEPICK_RULE_RANDOM); /* piece 0 has begun now, and lacks a block that is late here */
     GETS(piecepick_next(picker, 0, 0, &answer), PIECEPICK_K_PIPE_FULL);
-    REFUSED(piecepick_late(picker, 0, 0, 0, &answer), PIECEPICK_R_NOT_ASKED);
+    REFUSED(piecepick_late(picker, 0, 0, 0, &answer), PIECEPICK_R_NOT_REQUESTED);
     if (keeps == PIECEPICK_KEEPS_JOURNAL) EQUAL(piecepick_audit(picker), PIECEPICK_OK);
     piecepick_close(&picker);
 }
@@ -1670,7 +1670,7 @@ static void try_late_ends(uint32_t keeps)
             QUIET(piecepick_late(picker, 0, 0, 0, &answer));
             if (end == RELEASE) {
                 QUIET(piecepick_release(picker, 0, 0, 0, &answer));
-                REFUSED(piecepick_late(picker, 0, 0, 0, &answer), PIECEPICK_R_NOT_ASKED);
+                REFUSED(piecepick_late(picker, 0, 0, 0, &answer), PIECEPICK_R_NOT_REQUESTED);
             } else if (end == LACK) {
                 NOTED(piecepick_lack(picker, 0, 0, &answer), 1);
                 NOTED(piecepick_have(picker, 0, 0, &answer), 1);
@@ -1683,7 +1683,7 @@ static void try_late_ends(uint32_t keeps)
             } else {
                 /* It comes from the other peer. Then the piece has another hash, and no block of it is held. */
                 EQUAL(bring(picker, 1, 0, 0, 0), PIECEPICK_K_STORED);
-                EQUAL(bring(picker, 1, 0, BLOCK, 1), PIECEPICK_K_COMPLETED);
+                EQUAL(bring(picker, 1, 0, BLOCK, 1), PIECEPICK_K_FULL);
                 EQUAL(settle(picker, keeps, 0, 1), PIECEPICK_K_FAILED);
                 BLOCKS(piecepick_next(picker, 0, 0, &answer), PIECEPICK_K_CANCEL, 0, 0);
             }
@@ -1749,13 +1749,13 @@ static void try_late_last(uint32_t keeps)
     piecepick_answer answer;
     uint32_t number;
     come(picker, 0);
-    for (uint32_t piece = 0; piece < last; piece++) EQUAL(bring_whole(picker, keeps, 0, piece), PIECEPICK_K_HAD);
+    for (uint32_t piece = 0; piece < last; piece++) EQUAL(bring_whole(picker, keeps, 0, piece), PIECEPICK_K_COMPLETE);
     asks_by(picker, 0, 0, last, 0, PIECEPICK_RULE_RAREST);
     QUIET(piecepick_late(picker, 0, last, 0, &answer));
     for (uint64_t word = 0; word < 2; word++) GETS(piecepick_next(picker, 0, word, &answer), PIECEPICK_K_IDLE);
-    EQUAL(bring(picker, 0, last, 0, 0), PIECEPICK_K_COMPLETED);
+    EQUAL(bring(picker, 0, last, 0, 0), PIECEPICK_K_FULL);
     GETS(piecepick_next(picker, 0, 0, &answer), PIECEPICK_K_IDLE);
-    EQUAL(settle(picker, keeps, last, 0), PIECEPICK_K_HAD);
+    EQUAL(settle(picker, keeps, last, 0), PIECEPICK_K_COMPLETE);
     GETS(piecepick_next(picker, 0, 0, &answer), PIECEPICK_K_NOTHING_LEFT);
     NUMBER(piecepick_is_complete(picker, &number), 1);
     if (keeps == PIECEPICK_KEEPS_JOURNAL) EQUAL(piecepick_audit(picker), PIECEPICK_OK);
@@ -1988,7 +1988,7 @@ static void try_liar(uint32_t keeps)
     asks_by(picker, 0, 0, 0, 0, PIECEPICK_RULE_RANDOM);
     asks_by(picker, 1, 0, 0, BLOCK, PIECEPICK_RULE_BEGUN);
     EQUAL(bring(picker, 0, 0, 0, 0), PIECEPICK_K_STORED);
-    EQUAL(bring(picker, 1, 0, BLOCK, 1), PIECEPICK_K_COMPLETED);
+    EQUAL(bring(picker, 1, 0, BLOCK, 1), PIECEPICK_K_FULL);
     for (uint32_t index = 0; index < 2; index++) NUMBER(piecepick_sender(picker, 0, index, &number), index);
     EQUAL(settle(picker, keeps, 0, 1), PIECEPICK_K_FAILED);
     for (uint32_t worker = 0; worker < 2; worker++) QUIET(piecepick_alone(picker, worker, 1, &answer));
@@ -1996,9 +1996,9 @@ static void try_liar(uint32_t keeps)
         for (uint32_t worker = 0; worker < 2; worker++) BLOCKS(piecepick_next(picker, worker, worker, &answer), PIECEPICK_K_REQUEST, worker, begin);
     for (uint32_t worker = 0; worker < 2; worker++) {
         EQUAL(bring(picker, worker, worker, 0, 0), PIECEPICK_K_STORED);
-        EQUAL(bring(picker, worker, worker, BLOCK, worker == 1), PIECEPICK_K_COMPLETED);
+        EQUAL(bring(picker, worker, worker, BLOCK, worker == 1), PIECEPICK_K_FULL);
         for (uint32_t index = 0; index < 2; index++) NUMBER(piecepick_sender(picker, worker, index, &number), worker);
-        EQUAL(settle(picker, keeps, worker, worker == 1), worker == 1 ? PIECEPICK_K_FAILED : PIECEPICK_K_HAD);
+        EQUAL(settle(picker, keeps, worker, worker == 1), worker == 1 ? PIECEPICK_K_FAILED : PIECEPICK_K_COMPLETE);
         if (worker == 0) QUIET(piecepick_alone(picker, 0, 0, &answer));
         else QUIET(piecepick_leave(picker, 1, &answer));
     }
@@ -2030,7 +2030,7 @@ static void try_losses(uint32_t keeps)
     uint32_t number;
     uint64_t before;
     come(picker, 0);
-    EQUAL(bring_whole(picker, keeps, 0, 0), PIECEPICK_K_HAD);
+    EQUAL(bring_whole(picker, keeps, 0, 0), PIECEPICK_K_COMPLETE);
     before = picture(picker);
     if (keeps == PIECEPICK_KEEPS_JOURNAL) {
         NO_ANSWER(piecepick_lose(picker, 0, &answer), PIECEPICK_E_KEEPS);
@@ -2041,29 +2041,29 @@ static void try_losses(uint32_t keeps)
         return;
     }
     GETS(piecepick_lose(picker, 0, &answer), PIECEPICK_K_FAILED);
-    NUMBER(piecepick_is_had(picker, 0, &number), 0);
+    NUMBER(piecepick_has_piece(picker, 0, &number), 0);
     NUMBER(piecepick_is_waiting(picker, 0, &number), 0);
     NO_NUMBER(piecepick_sender(picker, 0, 0, &number), PIECEPICK_E_NOT_HELD);
     asks_piece(picker, 0, 0, 0);
-    EQUAL(bring_whole(picker, keeps, 0, 0), PIECEPICK_K_HAD);
+    EQUAL(bring_whole(picker, keeps, 0, 0), PIECEPICK_K_COMPLETE);
     /* One block of a begun piece is held, and the other one is in flight. */
     asks_piece(picker, 0, 1, 1);
     EQUAL(bring(picker, 0, 1, 0, 1), PIECEPICK_K_STORED);
     GETS(piecepick_lose(picker, 1, &answer), PIECEPICK_K_FAILED);
     NUMBER(piecepick_outstanding(picker, 0, &number), 1);
     BLOCKS(piecepick_next(picker, 0, 1, &answer), PIECEPICK_K_REQUEST, 1, 0);
-    EQUAL(bring_whole(picker, keeps, 0, 1), PIECEPICK_K_HAD);
+    EQUAL(bring_whole(picker, keeps, 0, 1), PIECEPICK_K_COMPLETE);
     /* Of this one nothing is held. */
     before = still_picture(picker);
     RISES(GETS(piecepick_lose(picker, 5, &answer), PIECEPICK_K_FAILED));
     EQUAL(still_picture(picker), before);
     /* The last piece of all. */
-    for (uint32_t piece = 2; piece < pieces; piece++) EQUAL(bring_whole(picker, keeps, 0, piece), PIECEPICK_K_HAD);
+    for (uint32_t piece = 2; piece < pieces; piece++) EQUAL(bring_whole(picker, keeps, 0, piece), PIECEPICK_K_COMPLETE);
     GETS(piecepick_next(picker, 0, 0, &answer), PIECEPICK_K_NOTHING_LEFT);
     RISES(GETS(piecepick_lose(picker, pieces - 1, &answer), PIECEPICK_K_FAILED));
     NUMBER(piecepick_has_wanted(picker, &number), 0);
     asks_piece(picker, 0, 0, pieces - 1);
-    EQUAL(bring_whole(picker, keeps, 0, pieces - 1), PIECEPICK_K_HAD);
+    EQUAL(bring_whole(picker, keeps, 0, pieces - 1), PIECEPICK_K_COMPLETE);
     NUMBER(piecepick_is_complete(picker, &number), 1);
     piecepick_close(&picker);
 }
@@ -2080,7 +2080,7 @@ static void try_discards(uint32_t keeps)
     come(picker, 1);
     if (keeps != PIECEPICK_KEEPS_JOURNAL) {
         EQUAL(bring(picker, 0, 0, 0, 1), PIECEPICK_K_STORED);
-        EQUAL(bring(picker, 1, 0, BLOCK, 0), PIECEPICK_K_COMPLETED);
+        EQUAL(bring(picker, 1, 0, BLOCK, 0), PIECEPICK_K_FULL);
         RISES(GETS(piecepick_discard(picker, 0, 0, &answer), PIECEPICK_K_FAILED));
         NUMBER(piecepick_is_waiting(picker, 0, &number), 0);
         NO_NUMBER(piecepick_sender(picker, 0, 0, &number), PIECEPICK_E_NOT_HELD);
@@ -2091,8 +2091,8 @@ static void try_discards(uint32_t keeps)
         GETS(piecepick_discard(picker, 0, 0, &answer), PIECEPICK_K_FAILED); /* it isn't held */
         EQUAL(still_picture(picker), before);
         BLOCKS(piecepick_next(picker, 1, 3, &answer), PIECEPICK_K_REQUEST, 0, 0);
-        EQUAL(bring(picker, 1, 0, 0, 0), PIECEPICK_K_COMPLETED);
-        EQUAL(settle(picker, keeps, 0, 0), PIECEPICK_K_HAD);
+        EQUAL(bring(picker, 1, 0, 0, 0), PIECEPICK_K_FULL);
+        EQUAL(settle(picker, keeps, 0, 0), PIECEPICK_K_COMPLETE);
         STAYS(REFUSED(piecepick_discard(picker, 0, 0, &answer), PIECEPICK_R_NOT_WAITING));
     }
     if (keeps == PIECEPICK_KEEPS_BEGUN) { /* a check that was under way is of bytes that are held no more */
@@ -2101,7 +2101,7 @@ static void try_discards(uint32_t keeps)
         EQUAL(piecepick_job_hash(job), PIECEPICK_OK);
         GETS(piecepick_discard(picker, 1, BLOCK, &answer), PIECEPICK_K_FAILED);
         NO_ANSWER(piecepick_job_settle(picker, job, &answer), PIECEPICK_E_NOT_WAITING);
-        EQUAL(bring(picker, 1, 1, BLOCK, 1), PIECEPICK_K_COMPLETED);
+        EQUAL(bring(picker, 1, 1, BLOCK, 1), PIECEPICK_K_FULL);
         NO_ANSWER(piecepick_job_settle(picker, job, &answer), PIECEPICK_E_STALE);
         piecepick_job_close(&job);
         EQUAL(settle(picker, keeps, 1, 1), PIECEPICK_K_FAILED);
@@ -2154,8 +2154,8 @@ static void try_epochs(uint32_t keeps)
     STAYS(REFUSED(piecepick_choke(picker, 2, &answer), PIECEPICK_R_NOT_JOINED));
     STAYS(REFUSED(piecepick_leave(picker, 2, &answer), PIECEPICK_R_NOT_JOINED));
     STAYS(REFUSED(piecepick_join(picker, 0, &answer), PIECEPICK_R_ALREADY_JOINED));
-    STAYS(REFUSED(piecepick_release(picker, 1, 0, 0, &answer), PIECEPICK_R_NOT_ASKED));
-    STAYS(REFUSED(piecepick_late(picker, 1, 0, 0, &answer), PIECEPICK_R_NOT_ASKED));
+    STAYS(REFUSED(piecepick_release(picker, 1, 0, 0, &answer), PIECEPICK_R_NOT_REQUESTED));
+    STAYS(REFUSED(piecepick_late(picker, 1, 0, 0, &answer), PIECEPICK_R_NOT_REQUESTED));
     STAYS(REFUSED(piecepick_late(picker, 2, 0, 0, &answer), PIECEPICK_R_NOT_JOINED));
     STAYS(REFUSED(piecepick_lack(picker, 2, 0, &answer), PIECEPICK_R_NOT_JOINED));
     STAYS(REFUSED(piecepick_set_level(picker, 0, 8, &answer), PIECEPICK_R_WRONG_LEVEL));
@@ -2168,7 +2168,7 @@ static void try_epochs(uint32_t keeps)
     STAYS(NO_ANSWER(piecepick_lack(picker, 0, pieces, &answer), PIECEPICK_E_PIECE));
     STAYS(NO_ANSWER(piecepick_late(picker, 3, 0, 0, &answer), PIECEPICK_E_WORKER));
     STAYS(NO_ANSWER(piecepick_late(picker, 0, pieces, 0, &answer), PIECEPICK_E_PIECE));
-    STAYS(NUMBER(piecepick_is_had(picker, 0, &number), 0));
+    STAYS(NUMBER(piecepick_has_piece(picker, 0, &number), 0));
     STAYS(EQUAL(piecepick_rule(picker, 0, 0, &number), PIECEPICK_OK));
     /* The first peer drops the piece, which frees both blocks. Then it has the piece again, and they are asked of it again. */
     RISES(NOTED(piecepick_lack(picker, 0, 0, &answer), 1));
@@ -2192,8 +2192,8 @@ static void try_epochs(uint32_t keeps)
     /* A block that its peer alone was asked for comes; another one comes unasked. */
     STAYS(EQUAL(bring(picker, 1, 0, begin, 0), PIECEPICK_K_STORED));
     STAYS(EQUAL(bring(picker, 1, 0, begin, 0), PIECEPICK_K_DROPPED));
-    RISES(EQUAL(bring(picker, 1, 0, BLOCK - begin, 0), PIECEPICK_K_COMPLETED));
-    RISES(EQUAL(settle(picker, keeps, 0, 0), PIECEPICK_K_HAD));
+    RISES(EQUAL(bring(picker, 1, 0, BLOCK - begin, 0), PIECEPICK_K_FULL));
+    RISES(EQUAL(settle(picker, keeps, 0, 0), PIECEPICK_K_COMPLETE));
     GETS(piecepick_next(picker, 1, 1, &answer), PIECEPICK_K_NOTHING_LEFT);
     /* What is wanted, and what is given up. */
     RISES(QUIET(piecepick_want(picker, all, flags_len, &answer)));
@@ -2311,7 +2311,7 @@ static piecepick_pick_rule rule_of(piecepick_picker *picker, uint32_t random, ui
         touched += piecepick_sender(picker, piece, index, &number) == PIECEPICK_OK || askers_of(picker, 0, piece, index * BLOCK) > 0;
     if (touched > 1) return PIECEPICK_RULE_BEGUN;
     for (uint32_t other = 0; other < pieces; other++) {
-        EQUAL(piecepick_is_had(picker, other, &number), PIECEPICK_OK);
+        EQUAL(piecepick_has_piece(picker, other, &number), PIECEPICK_OK);
         had += number;
     }
     return had < random ? PIECEPICK_RULE_RANDOM : PIECEPICK_RULE_RAREST;
@@ -2438,13 +2438,13 @@ static void try_epochs_at_random(uint32_t keeps)
             memcpy(block, bytes_of(piece) + begin, length);
             block[length - 1] = (uint8_t)(block[length - 1] + wrong);
             status = piecepick_arrived(picker, worker, piece, begin, block, length, &answer);
-            if (answer.kind == PIECEPICK_K_STORED || answer.kind == PIECEPICK_K_COMPLETED)
+            if (answer.kind == PIECEPICK_K_STORED || answer.kind == PIECEPICK_K_FULL)
                 is_wrong[piece] = begin + BLOCK >= length_of(piece) ? wrong : is_wrong[piece];
         } else {
             is_idle[worker] = was_idle; /* told by no worker */
             EQUAL(piecepick_is_waiting(picker, piece, &number), PIECEPICK_OK);
             /* Some last blocks were wrong. */
-            if (number) EQUAL(settle(picker, keeps, piece, is_wrong[piece]), is_wrong[piece] ? PIECEPICK_K_FAILED : PIECEPICK_K_HAD);
+            if (number) EQUAL(settle(picker, keeps, piece, is_wrong[piece]), is_wrong[piece] ? PIECEPICK_K_FAILED : PIECEPICK_K_COMPLETE);
             else if (action < 61) status = piecepick_set_level(picker, piece, level, &answer);
             else if (action < 62) status = piecepick_set_in_order_from(picker, level + 1, &answer);
         }
@@ -2482,17 +2482,17 @@ static void try_senders(uint32_t keeps)
         NO_NUMBER(piecepick_sender(picker, 1, 1, &number), PIECEPICK_E_NOT_HELD);
         EQUAL(bring(picker, 3, 1, 0, 0), PIECEPICK_K_DROPPED); /* the first that brings a block has sent it */
         NUMBER(piecepick_sender(picker, 1, 0, &number), 1);
-        EQUAL(bring(picker, 3, 1, BLOCK, wrong), PIECEPICK_K_COMPLETED);
+        EQUAL(bring(picker, 3, 1, BLOCK, wrong), PIECEPICK_K_FULL);
         NUMBER(piecepick_sender(picker, 1, 0, &number), 1);
         NUMBER(piecepick_sender(picker, 1, 1, &number), 3);
         NO_NUMBER(piecepick_sender(picker, 1, 2, &number), PIECEPICK_E_BLOCK);
         if (wrong) QUIET(piecepick_choke(picker, 3, &answer));
         NUMBER(piecepick_sender(picker, 1, 1, &number), 3);
-        EQUAL(settle(picker, keeps, 1, wrong), wrong ? PIECEPICK_K_FAILED : PIECEPICK_K_HAD);
+        EQUAL(settle(picker, keeps, 1, wrong), wrong ? PIECEPICK_K_FAILED : PIECEPICK_K_COMPLETE);
         if (wrong) NO_NUMBER(piecepick_sender(picker, 1, 1, &number), PIECEPICK_E_NOT_HELD);
     }
     /* Blocks stay held, and their senders known, behind the peer's leave. */
-    EQUAL(bring(picker, 3, pieces - 1, 0, 0), PIECEPICK_K_COMPLETED);
+    EQUAL(bring(picker, 3, pieces - 1, 0, 0), PIECEPICK_K_FULL);
     EQUAL(bring(picker, 3, 0, BLOCK, 0), PIECEPICK_K_STORED);
     QUIET(piecepick_leave(picker, 3, &answer));
     NUMBER(piecepick_sender(picker, pieces - 1, 0, &number), 3);
@@ -2501,9 +2501,9 @@ static void try_senders(uint32_t keeps)
     come(picker, 3);
     NUMBER(piecepick_sender(picker, pieces - 1, 0, &number), 3);
     NUMBER(piecepick_sender(picker, 0, 1, &number), 3);
-    EQUAL(settle(picker, keeps, pieces - 1, 0), PIECEPICK_K_HAD);
-    EQUAL(bring(picker, 1, 0, 0, 0), PIECEPICK_K_COMPLETED);
-    EQUAL(settle(picker, keeps, 0, 0), PIECEPICK_K_HAD);
+    EQUAL(settle(picker, keeps, pieces - 1, 0), PIECEPICK_K_COMPLETE);
+    EQUAL(bring(picker, 1, 0, 0, 0), PIECEPICK_K_FULL);
+    EQUAL(settle(picker, keeps, 0, 0), PIECEPICK_K_COMPLETE);
     piecepick_close(&picker);
 }
 
@@ -2515,7 +2515,7 @@ static piecepick_kind bring_to(uint8_t *file, piecepick_picker *picker, uint32_t
     uint8_t block[BLOCK];
     uint32_t length = copy_of(block, piece, begin, wrong);
     piecepick_kind kind = bring(picker, worker, piece, begin, wrong);
-    if (kind == PIECEPICK_K_STORED || kind == PIECEPICK_K_COMPLETED) memcpy(file + begin, block, length);
+    if (kind == PIECEPICK_K_STORED || kind == PIECEPICK_K_FULL) memcpy(file + begin, block, length);
     return kind;
 }
 
@@ -2539,23 +2539,23 @@ static void try_copies(uint32_t keeps)
     /* Bad copies come second, before and behind the piece's last block: the piece has its hash, and the peer of the good ones is named. */
     EQUAL(bring_to(file, picker, 0, 1, 0, 0), PIECEPICK_K_STORED);
     EQUAL(bring_to(file, picker, 1, 1, 0, 1), PIECEPICK_K_DROPPED);
-    EQUAL(bring_to(file, picker, 0, 1, BLOCK, 0), PIECEPICK_K_COMPLETED);
+    EQUAL(bring_to(file, picker, 0, 1, BLOCK, 0), PIECEPICK_K_FULL);
     EQUAL(bring_to(file, picker, 1, 1, BLOCK, 1), PIECEPICK_K_DROPPED);
     NUMBER(piecepick_sender(picker, 1, 0, &number), 0);
     NUMBER(piecepick_sender(picker, 1, 1, &number), 0);
     EQUAL(memcmp(file, bytes_of(1), PIECE), 0);
-    EQUAL(settle_file(file, picker, keeps, 1, 0), PIECEPICK_K_HAD);
+    EQUAL(settle_file(file, picker, keeps, 1, 0), PIECEPICK_K_COMPLETE);
     /* A bad copy comes first: it is the one that counts, and its peer is named until the check has failed. */
     EQUAL(bring_to(file, picker, 0, 2, 0, 0), PIECEPICK_K_STORED);
-    EQUAL(bring_to(file, picker, 1, 2, BLOCK, 1), PIECEPICK_K_COMPLETED);
+    EQUAL(bring_to(file, picker, 1, 2, BLOCK, 1), PIECEPICK_K_FULL);
     EQUAL(bring_to(file, picker, 0, 2, BLOCK, 0), PIECEPICK_K_DROPPED);
     NUMBER(piecepick_sender(picker, 2, 0, &number), 0);
     NUMBER(piecepick_sender(picker, 2, 1, &number), 1);
     EQUAL(settle_file(file, picker, keeps, 2, 1), PIECEPICK_K_FAILED);
     /* The piece comes again, and the copies of before are forgotten. */
     EQUAL(bring_to(file, picker, 0, 2, BLOCK, 0), PIECEPICK_K_STORED);
-    EQUAL(bring_to(file, picker, 0, 2, 0, 0), PIECEPICK_K_COMPLETED);
-    EQUAL(settle_file(file, picker, keeps, 2, 0), PIECEPICK_K_HAD);
+    EQUAL(bring_to(file, picker, 0, 2, 0, 0), PIECEPICK_K_FULL);
+    EQUAL(settle_file(file, picker, keeps, 2, 0), PIECEPICK_K_COMPLETE);
     if (keeps == PIECEPICK_KEEPS_JOURNAL) EQUAL(piecepick_audit(picker), PIECEPICK_OK);
     piecepick_close(&picker);
 }
@@ -2582,7 +2582,7 @@ static void try_allowed(uint32_t keeps)
         /* The peer counts twice where its pieces are allowed. */
         NUMBER(piecepick_availability(picker, 1, &number), 2);
         NUMBER(piecepick_availability(picker, 2, &number), 1);
-        EQUAL(bring_whole(picker, keeps, second, 0), PIECEPICK_K_HAD);
+        EQUAL(bring_whole(picker, keeps, second, 0), PIECEPICK_K_COMPLETE);
         GETS(piecepick_next(picker, second, 3, &answer), PIECEPICK_K_IDLE);
         /* Two blocks are in flight when it unchokes us. They stay so, or are requested once more on the same connection. */
         if (stays) {
@@ -2597,7 +2597,7 @@ static void try_allowed(uint32_t keeps)
         EQUAL(in_flight_of(picker, stays ? second : first, 1), stays ? 2 : 0);
         EQUAL(asks_all(picker, stays ? second : first, PIECEPICK_K_IDLE), all_blocks() - (stays ? 4 : 2));
         EQUAL(in_flight_of(picker, stays ? second : first, 1), 2);
-        EQUAL(bring_whole(picker, keeps, stays ? second : first, 1), PIECEPICK_K_HAD);
+        EQUAL(bring_whole(picker, keeps, stays ? second : first, 1), PIECEPICK_K_COMPLETE);
         if (keeps == PIECEPICK_KEEPS_JOURNAL) EQUAL(piecepick_audit(picker), PIECEPICK_OK);
         piecepick_close(&picker);
     }
@@ -2616,8 +2616,8 @@ static void try_suggested(uint32_t keeps)
     BLOCKS(piecepick_next(picker, 0, 0, &answer), PIECEPICK_K_REQUEST, 6, 0);
     BLOCKS(piecepick_next(picker, 1, 0, &answer), PIECEPICK_K_REQUEST, 6, BLOCK);
     EQUAL(bring(picker, 0, 6, 0, 0), PIECEPICK_K_STORED);
-    EQUAL(bring(picker, 1, 6, BLOCK, 0), PIECEPICK_K_COMPLETED);
-    EQUAL(settle(picker, keeps, 6, 0), PIECEPICK_K_HAD);
+    EQUAL(bring(picker, 1, 6, BLOCK, 0), PIECEPICK_K_FULL);
+    EQUAL(settle(picker, keeps, 6, 0), PIECEPICK_K_COMPLETE);
     /* Another suggestion ends before its piece is begun, as the peer is gone. */
     QUIET(piecepick_set_level(picker, 8, 5, &answer));
     QUIET(piecepick_set_level(picker, 8, 4, &answer));
@@ -2714,9 +2714,9 @@ static void try_padding(uint32_t keeps)
     uint32_t number;
     for (uint32_t begin = 0; begin < PIECE; begin += BLOCK) {
         BLOCKS(piecepick_next(picker, peer, 0, &answer), PIECEPICK_K_REQUEST, 0, begin); /* padding in part is fetched */
-        GETS(piecepick_arrived(picker, peer, 0, begin, padded + begin, BLOCK, &answer), begin ? PIECEPICK_K_COMPLETED : PIECEPICK_K_STORED);
+        GETS(piecepick_arrived(picker, peer, 0, begin, padded + begin, BLOCK, &answer), begin ? PIECEPICK_K_FULL : PIECEPICK_K_STORED);
     }
-    EQUAL(settle_bytes(picker, keeps, 0, padded, PIECE), PIECEPICK_K_HAD);
+    EQUAL(settle_bytes(picker, keeps, 0, padded, PIECE), PIECEPICK_K_COMPLETE);
     /* At the first request of the other piece its padding is told, and so once more after a check has failed. The disk makes no piece less
        rare. */
     memcpy(bad, padded + PIECE, PIECE);
@@ -2727,8 +2727,8 @@ static void try_padding(uint32_t keeps)
         GETS(piecepick_next(picker, peer, 0, &answer), PIECEPICK_K_IDLE);
         NUMBER(piecepick_availability(picker, 1, &number), 1);
         NUMBER(piecepick_sender(picker, 1, 1, &number), disk);
-        GETS(piecepick_arrived(picker, peer, 1, 0, wrong ? bad : padded + PIECE, BLOCK, &answer), PIECEPICK_K_COMPLETED);
-        EQUAL(settle_bytes(picker, keeps, 1, wrong ? bad : padded + PIECE, PIECE), wrong ? PIECEPICK_K_FAILED : PIECEPICK_K_HAD);
+        GETS(piecepick_arrived(picker, peer, 1, 0, wrong ? bad : padded + PIECE, BLOCK, &answer), PIECEPICK_K_FULL);
+        EQUAL(settle_bytes(picker, keeps, 1, wrong ? bad : padded + PIECE, PIECE), wrong ? PIECEPICK_K_FAILED : PIECEPICK_K_COMPLETE);
     }
     NUMBER(piecepick_is_complete(picker, &number), 1);
     if (keeps == PIECEPICK_KEEPS_JOURNAL) EQUAL(piecepick_audit(picker), PIECEPICK_OK);
@@ -2744,10 +2744,10 @@ static void try_padding(uint32_t keeps)
         GETS(piecepick_arrived(picker, disk, 1, 0, padded + PIECE, BLOCK, &answer), PIECEPICK_K_STORED);
         BLOCKS(piecepick_next(picker, peer, 0, &answer), PIECEPICK_K_REQUEST, 1, BLOCK);
         if (released) QUIET(piecepick_release(picker, peer, 1, BLOCK, &answer));
-        GETS(piecepick_arrived(picker, disk, 1, BLOCK, zeros, BLOCK, &answer), PIECEPICK_K_COMPLETED);
+        GETS(piecepick_arrived(picker, disk, 1, BLOCK, zeros, BLOCK, &answer), PIECEPICK_K_FULL);
         if (!released) BLOCKS(piecepick_next(picker, peer, 0, &answer), PIECEPICK_K_CANCEL, 1, BLOCK);
         BLOCKS(piecepick_next(picker, peer, 0, &answer), PIECEPICK_K_REQUEST, 0, 0);
-        EQUAL(settle_bytes(picker, keeps, 1, padded + PIECE, PIECE), PIECEPICK_K_HAD);
+        EQUAL(settle_bytes(picker, keeps, 1, padded + PIECE, PIECE), PIECEPICK_K_COMPLETE);
         if (keeps == PIECEPICK_KEEPS_JOURNAL) EQUAL(piecepick_audit(picker), PIECEPICK_OK);
         piecepick_close(&picker);
     }
@@ -2790,8 +2790,8 @@ static void try_chokes(uint32_t keeps)
         GETS(piecepick_next(picker, 0, 3, &answer), PIECEPICK_K_CHOKED);
         NUMBER(piecepick_outstanding(picker, 1, &number), 2);
         for (uint32_t piece = 0; piece < 2; piece++) {
-            EQUAL(bring(picker, 1, piece, BLOCK, 0), PIECEPICK_K_COMPLETED);
-            EQUAL(settle(picker, keeps, piece, 0), PIECEPICK_K_HAD);
+            EQUAL(bring(picker, 1, piece, BLOCK, 0), PIECEPICK_K_FULL);
+            EQUAL(settle(picker, keeps, piece, 0), PIECEPICK_K_COMPLETE);
         }
         if (keeps == PIECEPICK_KEEPS_JOURNAL) EQUAL(piecepick_audit(picker), PIECEPICK_OK);
         piecepick_close(&picker);
@@ -2806,7 +2806,7 @@ static void try_lowered(uint32_t keeps)
     piecepick_answer answer;
     uint32_t number;
     come(picker, 0);
-    for (uint32_t piece = 0; piece < last; piece++) EQUAL(bring_whole(picker, keeps, 0, piece), PIECEPICK_K_HAD);
+    for (uint32_t piece = 0; piece < last; piece++) EQUAL(bring_whole(picker, keeps, 0, piece), PIECEPICK_K_COMPLETE);
     NUMBER(piecepick_has_wanted(picker, &number), 0);
     QUIET(piecepick_set_level(picker, last, 0, &answer));
     NUMBER(piecepick_has_wanted(picker, &number), 1);
@@ -2850,7 +2850,7 @@ static void try_own_cancels(uint32_t keeps)
         if (before) QUIET(piecepick_release(picker, 1, 0, 0, &answer));
         EQUAL(bring(picker, 0, 0, 0, 0), PIECEPICK_K_STORED);
         if (!before) {
-            REFUSED(piecepick_release(picker, 1, 0, 0, &answer), PIECEPICK_R_NOT_ASKED); /* too late */
+            REFUSED(piecepick_release(picker, 1, 0, 0, &answer), PIECEPICK_R_NOT_REQUESTED); /* too late */
             BLOCKS(piecepick_next(picker, 1, 3, &answer), PIECEPICK_K_CANCEL, 0, 0);
         }
         GETS(piecepick_next(picker, 1, 3, &answer), PIECEPICK_K_IDLE);
@@ -2884,16 +2884,16 @@ static void try_restores(void)
     EQUAL(picture(picker), before);
     /* Another piece's bytes fail, and leave the piece as it was: no block is held. The right ones are had then. */
     GETS(restore_piece(picker, disk, 0, 1, &answer), PIECEPICK_K_FAILED);
-    NUMBER(piecepick_is_had(picker, 0, &number), 0);
+    NUMBER(piecepick_has_piece(picker, 0, &number), 0);
     NO_NUMBER(piecepick_sender(picker, 0, 0, &number), PIECEPICK_E_NOT_HELD);
-    GETS(restore_piece(picker, disk, 0, 0, &answer), PIECEPICK_K_HAD);
-    NUMBER(piecepick_is_had(picker, 0, &number), 1);
+    GETS(restore_piece(picker, disk, 0, 0, &answer), PIECEPICK_K_COMPLETE);
+    NUMBER(piecepick_has_piece(picker, 0, &number), 1);
     NUMBER(piecepick_sender(picker, 0, 1, &number), disk);
     NO_ANSWER(restore_piece(picker, disk, 0, 0, &answer), PIECEPICK_E_BEGUN);
-    GETS(restore_piece(picker, disk, last, last, &answer), PIECEPICK_K_HAD);
+    GETS(restore_piece(picker, disk, last, last, &answer), PIECEPICK_K_COMPLETE);
     /* None of the bytes is read: these can't be. */
     digest = sha1(bytes_of(1), PIECE);
-    GETS(piecepick_restore(picker, disk, 1, sealed, PIECE, &digest, &answer), PIECEPICK_K_HAD);
+    GETS(piecepick_restore(picker, disk, 1, sealed, PIECE, &digest, &answer), PIECEPICK_K_COMPLETE);
     GETS(piecepick_arrived(picker, disk, 2, 0, sealed, BLOCK, &answer), PIECEPICK_K_STORED);
     NO_ANSWER(restore_piece(picker, disk, 2, 2, &answer), PIECEPICK_E_BEGUN);
     /* A disk shows nothing, so it has nothing to be asked for. */
@@ -2911,9 +2911,9 @@ static void try_restores(void)
     /* A disk's blocks stay held, and its pieces had, behind its leave. The rest comes from the peer. */
     QUIET(piecepick_leave(picker, disk, &answer));
     NUMBER(piecepick_sender(picker, 2, 0, &number), disk);
-    EQUAL(bring(picker, 0, 2, BLOCK, 0), PIECEPICK_K_COMPLETED);
-    EQUAL(settle(picker, PIECEPICK_KEEPS_NOTHING, 2, 0), PIECEPICK_K_HAD);
-    for (uint32_t piece = 3; piece < last; piece++) EQUAL(bring_whole(picker, PIECEPICK_KEEPS_NOTHING, 0, piece), PIECEPICK_K_HAD);
+    EQUAL(bring(picker, 0, 2, BLOCK, 0), PIECEPICK_K_FULL);
+    EQUAL(settle(picker, PIECEPICK_KEEPS_NOTHING, 2, 0), PIECEPICK_K_COMPLETE);
+    for (uint32_t piece = 3; piece < last; piece++) EQUAL(bring_whole(picker, PIECEPICK_KEEPS_NOTHING, 0, piece), PIECEPICK_K_COMPLETE);
     NUMBER(piecepick_is_complete(picker, &number), 1);
     piecepick_close(&picker);
     munmap(sealed, PIECE);
@@ -2955,7 +2955,7 @@ static void try_jobs(uint32_t keeps)
     memcpy(wrong, bytes_of(last), length);
     wrong[length - 1]++;
     come(picker, 0);
-    EQUAL(bring(picker, 0, last, 0, 1), PIECEPICK_K_COMPLETED);
+    EQUAL(bring(picker, 0, last, 0, 1), PIECEPICK_K_FULL);
     first = take(picker, last);
     second = take(picker, last);
     third = take(picker, last);
@@ -2979,14 +2979,14 @@ static void try_jobs(uint32_t keeps)
     piecepick_job_close(&first);
     EQUAL(first == NULL, 1);
     /* The same bytes come again: what was hashed is what is held. */
-    EQUAL(bring(picker, 0, last, 0, 1), PIECEPICK_K_COMPLETED);
+    EQUAL(bring(picker, 0, last, 0, 1), PIECEPICK_K_FULL);
     GETS(piecepick_job_settle(picker, second, &answer), PIECEPICK_K_FAILED);
     /* Other bytes come. */
-    EQUAL(bring(picker, 0, last, 0, 0), PIECEPICK_K_COMPLETED);
+    EQUAL(bring(picker, 0, last, 0, 0), PIECEPICK_K_FULL);
     NO_ANSWER(piecepick_job_settle(picker, third, &answer), PIECEPICK_E_STALE);
     first = take(picker, last);
     EQUAL(piecepick_job_hash(first), PIECEPICK_OK);
-    GETS(piecepick_job_settle(picker, first, &answer), PIECEPICK_K_HAD);
+    GETS(piecepick_job_settle(picker, first, &answer), PIECEPICK_K_COMPLETE);
     NO_ANSWER(piecepick_job_settle(picker, first, &answer), PIECEPICK_E_NOT_WAITING);
     NO_ANSWER(piecepick_job_settle(picker, third, &answer), PIECEPICK_E_NOT_WAITING);
     reads(first, bytes_of(last), length);
@@ -2994,7 +2994,7 @@ static void try_jobs(uint32_t keeps)
     EQUAL(piecepick_job_take(picker, last, &same), PIECEPICK_E_NOT_WAITING);
     /* A job outlives its picker. */
     EQUAL(bring(picker, 0, 1, 0, 0), PIECEPICK_K_STORED);
-    EQUAL(bring(picker, 0, 1, BLOCK, 0), PIECEPICK_K_COMPLETED);
+    EQUAL(bring(picker, 0, 1, BLOCK, 0), PIECEPICK_K_FULL);
     same = take(picker, 1);
     if (keeps == PIECEPICK_KEEPS_JOURNAL) EQUAL(piecepick_audit(picker), PIECEPICK_OK);
     piecepick_close(&picker);
@@ -3042,7 +3042,7 @@ static void settle_again(piecepick_picker *picker, uint32_t keeps, uint32_t piec
         EQUAL(piecepick_job_read(job, place, length_of(piece)), PIECEPICK_OK);
         piecepick_job_close(&job);
     }
-    EQUAL(answer.kind, PIECEPICK_K_HAD);
+    EQUAL(answer.kind, PIECEPICK_K_COMPLETE);
 }
 
 /* Reads each piece into its place, with a byte behind it that stays as it is; a room of another length stays so too. */
@@ -3095,7 +3095,7 @@ static void run(uint32_t keeps)
     if (is_nothing) {
         EQUAL(piecepick_join(picker, 2, &answer), PIECEPICK_OK);
         EQUAL(restore_piece(picker, 2, 1, 1, &answer), PIECEPICK_OK);
-        EQUAL(answer.kind, PIECEPICK_K_HAD);
+        EQUAL(answer.kind, PIECEPICK_K_COMPLETE);
         memcpy(room + PIECE, bytes_of(1), PIECE);
         EQUAL(piecepick_leave(picker, 2, &answer), PIECEPICK_OK);
     }
@@ -3112,7 +3112,7 @@ static void run(uint32_t keeps)
         const uint8_t *block = bytes_of(request.piece) + request.begin;
         AGAIN_IF(!is_nothing, piecepick_arrived(picker, worker, request.piece, request.begin, block, request.length, &answer));
         if (is_nothing) memcpy(room + (size_t)request.piece * PIECE + request.begin, block, request.length);
-        if (answer.kind == PIECEPICK_K_COMPLETED) settle_again(picker, keeps, request.piece);
+        if (answer.kind == PIECEPICK_K_FULL) settle_again(picker, keeps, request.piece);
         else EQUAL(answer.kind, PIECEPICK_K_STORED);
     }
     EQUAL(piecepick_is_complete(picker, &number), PIECEPICK_OK);
@@ -3181,7 +3181,7 @@ static void settle_shared(uint32_t piece)
         if (memcmp(place, bytes, length) != 0) fail(__LINE__, "bytes", 1, 0);
         piecepick_job_close(&job);
     }
-    if (answer.kind != PIECEPICK_K_HAD) fail(__LINE__, "a check", answer.kind, PIECEPICK_K_HAD);
+    if (answer.kind != PIECEPICK_K_COMPLETE) fail(__LINE__, "a check", answer.kind, PIECEPICK_K_COMPLETE);
 }
 
 static void *worker_thread(void *argument)
@@ -3201,7 +3201,7 @@ static void *worker_thread(void *argument)
         uint32_t piece = answer.piece;
         const uint8_t *block = bytes_of(piece) + answer.begin;
         LOCKED(piecepick_arrived(shared, worker, piece, answer.begin, block, answer.length, &answer));
-        if (answer.kind == PIECEPICK_K_COMPLETED) settle_shared(piece);
+        if (answer.kind == PIECEPICK_K_FULL) settle_shared(piece);
     }
 }
 

@@ -120,19 +120,19 @@ int main()
     options.keeps = PIECEPICK_KEEPS_JOURNAL;
     auto open = [&] { return Picker(16384, 1, {digest.bytes, 20}, options); };
     Picker first = open(), second = std::move(first);
-    bool well = throws(PIECEPICK_E_SHUT, [&] { first.join(0); }) && throws(PIECEPICK_E_SHUT, [&] { (void)first.name(); });
+    bool well = throws(PIECEPICK_E_CLOSED, [&] { first.join(0); }) && throws(PIECEPICK_E_CLOSED, [&] { (void)first.name(); });
     first = std::move(second);
-    well = well && throws(PIECEPICK_E_SHUT, [&] { (void)second.pieces(); }) && first.pieces() == 1;
+    well = well && throws(PIECEPICK_E_CLOSED, [&] { (void)second.pieces(); }) && first.pieces() == 1;
     well = well && throws(PIECEPICK_E_WORKER, [&] { first.join(50); }) && throws(PIECEPICK_E_BENCODE, [&] { Picker(std::string(), options); });
     well = well && throws(PIECEPICK_E_NOT_WAITING, [&] { (void)first.job_take(0); });
-    well = well && first.join(0).kind == PIECEPICK_K_JOINED && first.arrived(0, 0, 0, std::string("0")).kind == PIECEPICK_K_COMPLETED;
+    well = well && first.join(0).kind == PIECEPICK_K_JOINED && first.arrived(0, 0, 0, std::string("0")).kind == PIECEPICK_K_FULL;
     Job job = first.job_take(0), same = std::move(job);
     well = well && throws(PIECEPICK_E_NO_JOB, [&] { job.hash(); }) && throws(PIECEPICK_E_NOT_HASHED, [&] { (void)first.settle(same); });
     job = std::move(same);
     job.hash();
     std::array<std::uint8_t, 1> room{};
     std::vector<std::uint8_t> none, more(2);
-    well = well && first.settle(job).kind == PIECEPICK_K_HAD && first.is_complete() && first.sender(0, 0) == 0;
+    well = well && first.settle(job).kind == PIECEPICK_K_COMPLETE && first.is_complete() && first.sender(0, 0) == 0;
     job.read(room);
     well = well && room[0] == '0' && throws(PIECEPICK_E_LENGTH, [&] { job.read(none); }) && throws(PIECEPICK_E_LENGTH, [&] { job.read(more); });
     room[0] = 0;
@@ -147,13 +147,13 @@ int main()
     for (std::uint32_t worker = 0; worker < 2; worker++) {
         const std::string block(1, static_cast<char>('0' + worker));
         const Answer answer = bare.arrived(worker, 0, 0, block);
-        if (answer.kind == PIECEPICK_K_STORED || answer.kind == PIECEPICK_K_COMPLETED) file = block;
-        well = well && answer.kind == (worker == 0 ? PIECEPICK_K_COMPLETED : PIECEPICK_K_DROPPED);
+        if (answer.kind == PIECEPICK_K_STORED || answer.kind == PIECEPICK_K_FULL) file = block;
+        well = well && answer.kind == (worker == 0 ? PIECEPICK_K_FULL : PIECEPICK_K_DROPPED);
     }
     well = well && bare.sender(0, 0) == 0 && file == "0";
     well = well && bare.askers(0, 0) == 0 && throws(PIECEPICK_E_BLOCK, [&] { (void)bare.askers(0, 9); });
     well = well && throws(PIECEPICK_E_PIECE, [&] { (void)bare.verdict(9, true); });
-    well = well && bare.settle(0, hash(file)).kind == PIECEPICK_K_HAD;
+    well = well && bare.settle(0, hash(file)).kind == PIECEPICK_K_COMPLETE;
     /* Of three pieces one is nowhere. A second peer is asked for one block in endgame, or for none where endgame waits for all pieces. */
     const std::uint8_t digests[60] = {}, two[1] = {0xc0};
     for (std::uint32_t shown = 0; shown < 2; shown++) {
@@ -211,7 +211,7 @@ int main()
     well = well && losing.arrived(0, 0, 0, zeros).kind == PIECEPICK_K_STORED && losing.discard(0, 1).reason == PIECEPICK_R_NO_SUCH_BLOCK;
     well = well && throws(PIECEPICK_E_PIECE, [&] { losing.lose(2); }) && throws(PIECEPICK_E_PIECE, [&] { losing.discard(2, 0); });
     first = open();
-    return well && !first.is_complete() && throws(PIECEPICK_E_NOT_HAD, [&] { first.read(0, room); }) ? 0 : 1;
+    return well && !first.is_complete() && throws(PIECEPICK_E_INCOMPLETE, [&] { first.read(0, room); }) ? 0 : 1;
 }
 CPP
 

@@ -114,10 +114,10 @@ class Content:
     def arrived(self, worker: int, piece: int, begin: int, block: memoryview) -> Kind:
         """A block came: tells the picker, writes it, and has a full piece checked. Raises StorageFault where it can't be written."""
         kind = self.picker.arrived(worker, piece, begin, block).kind
-        if kind in (Kind.STORED, Kind.COMPLETED):
+        if kind in (Kind.STORED, Kind.FULL):
             self.storage.write(piece * self.layout.piece_length + begin, block)
             self._hold(piece, begin // BLOCK)
-        if kind is Kind.COMPLETED:
+        if kind is Kind.FULL:
             self.checker.start(piece, self.picker.piece_hash(piece), with_blocks=piece in self.blame.suspects)
         return kind
 
@@ -138,7 +138,7 @@ class Content:
         piece = check.piece
         # Who brought the blocks is known until the picker is told that they are wrong.
         senders = [self.owners.get(self.picker.sender(piece, block)) for block in range(self.layout.blocks_of(piece))]
-        is_had = self.picker.settle(piece, check.digest).kind is Kind.HAD
+        is_had = self.picker.settle(piece, check.digest).kind is Kind.COMPLETE
         self.held.pop(piece, None)
         self.is_saved = False
         if is_had:

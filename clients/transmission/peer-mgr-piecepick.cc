@@ -65,7 +65,7 @@ void PiecePick::restore()
     {
         auto const loc = tor_->block_loc(block);
         auto const kind = tor_->has_block(block) ? came(disk, loc.piece, loc.piece_offset, tor_->block_size(block)).kind : 0;
-        if (kind == PIECEPICK_K_COMPLETED)
+        if (kind == PIECEPICK_K_FULL)
         {
             verdict(loc.piece, true);
         }

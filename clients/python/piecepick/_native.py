@@ -16,7 +16,7 @@ class Status(IntEnum):
     """Why a call did nothing."""
 
     OK = 0
-    SHUT = 1
+    CLOSED = 1
     OPEN = 2
     WORKER = 3
     PIECE = 4
@@ -24,7 +24,7 @@ class Status(IntEnum):
     SPARE_BITS = 6
     LENGTH = 7
     MEMORY = 8
-    NOT_HAD = 9
+    INCOMPLETE = 9
     RULES = 10
     NOT_WAITING = 11
     NO_JOB = 12
@@ -69,9 +69,9 @@ class Kind(IntEnum):
     IDLE = 8
     NOTHING_LEFT = 9
     STORED = 10
-    COMPLETED = 11
+    FULL = 11
     DROPPED = 12
-    HAD = 13
+    COMPLETE = 13
     FAILED = 14
     REFUSED = 15
 
@@ -89,7 +89,7 @@ class Reason(IntEnum):
     WRONG_LENGTH = 7
     NOT_WAITING = 8
     STALE = 9
-    NOT_ASKED = 10
+    NOT_REQUESTED = 10
     WRONG_DEPTH = 11
     WRONG_LEVEL = 12
 
@@ -198,7 +198,7 @@ SIGNATURES: dict[str, tuple[Any, list[Any]]] = {
     "piecepick_is_in_order": (c_uint32, [_PICKER, _NUMBER]),
     "piecepick_order_from": (c_uint32, [_PICKER, _NUMBER]),
     "piecepick_epoch": (c_uint32, [_PICKER, _WIDE]),
-    "piecepick_is_had": (c_uint32, [_PICKER, c_uint32, _NUMBER]),
+    "piecepick_has_piece": (c_uint32, [_PICKER, c_uint32, _NUMBER]),
     "piecepick_is_waiting": (c_uint32, [_PICKER, c_uint32, _NUMBER]),
     "piecepick_level": (c_uint32, [_PICKER, c_uint32, _NUMBER]),
     "piecepick_availability": (c_uint32, [_PICKER, c_uint32, _NUMBER]),

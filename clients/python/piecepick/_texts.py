@@ -2,7 +2,7 @@
 
 STATUS = {
     "OK": "done",
-    "SHUT": "there is no picker at this pointer",
+    "CLOSED": "there is no picker at this pointer",
     "OPEN": "the handle to be filled must start as NULL",
     "WORKER": "no such worker number, or the option workers isn't 1 to 1,024",
     "PIECE": "no such piece",
@@ -10,7 +10,7 @@ STATUS = {
     "SPARE_BITS": "a spare bit at the end of the bitfield is set",
     "LENGTH": "wrong buffer length: it must be exactly that of the item",
     "MEMORY": "out of memory",
-    "NOT_HAD": "the piece isn't complete",
+    "INCOMPLETE": "the piece isn't complete",
     "RULES": "an option is out of its range: depth, deepest, askers, random, open, rush or shown",
     "NOT_WAITING": "the piece isn't waiting for a check: a block is lacking, or it is complete",
     "NO_JOB": "there is no job at this pointer",
@@ -47,7 +47,7 @@ REASON = {
     "WRONG_LENGTH": "wrong block length",
     "NOT_WAITING": "the piece isn't waiting for a check: a block is lacking, or it is complete",
     "STALE": "the bytes that were hashed aren't those that the picker holds now",
-    "NOT_ASKED": "the block isn't requested from this peer",
+    "NOT_REQUESTED": "the block isn't requested from this peer",
     "WRONG_DEPTH": "the depth must be 1 to the option deepest",
     "WRONG_LEVEL": "a level is out of its range: 0 to 7, or 0 to 8 for the order",
 }

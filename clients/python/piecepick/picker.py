@@ -56,9 +56,9 @@ class MemoryFault(PiecepickError, MemoryError):
 # These tell of what was done before, and not of what was passed.
 _OF_STATE = frozenset(
     {
-        Status.SHUT,
+        Status.CLOSED,
         Status.OPEN,
-        Status.NOT_HAD,
+        Status.INCOMPLETE,
         Status.NOT_WAITING,
         Status.NO_JOB,
         Status.NOT_HASHED,
@@ -278,7 +278,7 @@ class Picker:
         self._close.atexit = False
 
     def close(self) -> None:
-        """Frees the picker. Each later call but this raises a PiecepickError with Status.SHUT."""
+        """Frees the picker. Each later call but this raises a PiecepickError with Status.CLOSED."""
         with self._lock:
             if self._is_open:
                 self._is_open = False
@@ -297,7 +297,7 @@ class Picker:
         """Makes a call that has an answer."""
         with self._lock:
             if not self._is_open:
-                _fail(call.__name__, Status.SHUT)
+                _fail(call.__name__, Status.CLOSED)
             if status := call(self._handle, *arguments, self._answer_at):
                 _fail(call.__name__, status)
             return _answer(self._answer)
@@ -306,14 +306,14 @@ class Picker:
         """Makes a call that has none."""
         with self._lock:
             if not self._is_open:
-                _fail(call.__name__, Status.SHUT)
+                _fail(call.__name__, Status.CLOSED)
             _check(call, self._handle, *arguments)
 
     def _count(self, call: Any, *arguments: int) -> int:
         """Makes a call that writes a number of 32 bits."""
         with self._lock:
             if not self._is_open:
-                _fail(call.__name__, Status.SHUT)
+                _fail(call.__name__, Status.CLOSED)
             _check(call, self._handle, *arguments, self._number_at)
             return self._number.value
 
@@ -321,7 +321,7 @@ class Picker:
         """Makes a call that writes a number of 64 bits."""
         with self._lock:
             if not self._is_open:
-                _fail(call.__name__, Status.SHUT)
+                _fail(call.__name__, Status.CLOSED)
             _check(call, self._handle, *arguments, self._wide_at)
             return self._wide.value
 
@@ -364,14 +364,14 @@ class Picker:
     def arrived(self, worker: int, piece: int, begin: int, block: BytesLike) -> Answer:
         """A `piece` message came. A picker that keeps nothing reads none of the bytes; another one copies them once.
 
-        Where nothing is kept, write the bytes at STORED and COMPLETED, and at no other answer: of two copies the first one counts.
+        Where nothing is kept, write the bytes at STORED and FULL, and at no other answer: of two copies the first one counts.
         """
         if (worker | piece | begin) >> 32:
             raise ValueError(f"{worker}, {piece} or {begin} isn't 0 to 2^32 - 1")
         data, length = lend(block)
         with self._lock:
             if not self._is_open:
-                _fail("arrived", Status.SHUT)
+                _fail("arrived", Status.CLOSED)
             self._worker.value = worker
             self._piece.value = piece
             self._begin.value = begin
@@ -381,11 +381,11 @@ class Picker:
             return _answer(self._answer)
 
     def release(self, worker: int, piece: int, begin: int) -> Answer:
-        """The block that begins there, in bytes, is asked of the peer no more; REFUSED by NOT_ASKED where it wasn't."""
+        """The block that begins there, in bytes, is asked of the peer no more; REFUSED by NOT_REQUESTED where it wasn't."""
         return self._told(LIBRARY.piecepick_release, _u32(worker), _u32(piece), _u32(begin))
 
     def late(self, worker: int, piece: int, begin: int) -> Answer:
-        """A request takes too long: late. It was rejected, or never sent: `release`. REFUSED by NOT_ASKED as there.
+        """A request takes too long: late. It was rejected, or never sent: `release`. REFUSED by NOT_REQUESTED as there.
 
         The block that begins there, in bytes, stays asked of the peer. One of the other peers may be asked for it at once, before endgame. When
         another one brings it, a cancel is due at this peer. While the request lasts, this peer isn't asked for the block again.
@@ -420,7 +420,7 @@ class Picker:
             raise ValueError(f"{worker} isn't 0 to 2^32 - 1")
         with self._lock:
             if not self._is_open:
-                _fail("next", Status.SHUT)
+                _fail("next", Status.CLOSED)
             self._worker.value = worker
             self._word.value = word
             if status := _next(self._handle, self._worker, self._word, self._answer_at):
@@ -471,11 +471,11 @@ class Picker:
     # Checks.
 
     def settle(self, piece: int, digest: BytesLike) -> Answer:
-        """Keeps.NOTHING: the piece is full, and this is the SHA-1 of its blocks as they were stored. HAD or FAILED."""
+        """Keeps.NOTHING: the piece is full, and this is the SHA-1 of its blocks as they were stored. COMPLETE or FAILED."""
         return self._told(LIBRARY.piecepick_settle, _u32(piece), byref(_digest(digest)))
 
     def verdict(self, piece: int, passed: bool) -> Answer:
-        """Keeps.NOTHING: the piece is full, and was compared: whether its blocks, as they were stored, have its hash. HAD or FAILED.
+        """Keeps.NOTHING: the piece is full, and was compared: whether its blocks, as they were stored, have its hash. COMPLETE or FAILED.
 
         Where the disk couldn't be read nothing is known of the hash: tell `discard` of each block.
         """
@@ -491,7 +491,7 @@ class Picker:
         return Job(self, piece)
 
     def settle_now(self, piece: int) -> Answer:
-        """Keeps.JOURNAL: hashes a full piece under the lock. HAD or FAILED."""
+        """Keeps.JOURNAL: hashes a full piece under the lock. COMPLETE or FAILED."""
         return self._told(LIBRARY.piecepick_settle_now, _u32(piece))
 
     # What the picker knows.
@@ -531,9 +531,9 @@ class Picker:
         """While it is the same, a peer whose answer was IDLE or NOTHING_LEFT needs no further query, but after an event of its own."""
         return self._long_count(LIBRARY.piecepick_epoch)
 
-    def is_had(self, piece: int) -> bool:
+    def has_piece(self, piece: int) -> bool:
         """Whether the piece was found right."""
-        return bool(self._count(LIBRARY.piecepick_is_had, _u32(piece)))
+        return bool(self._count(LIBRARY.piecepick_has_piece, _u32(piece)))
 
     def is_waiting(self, piece: int) -> bool:
         """Whether the piece is full, and waits for its check."""
@@ -688,7 +688,7 @@ class Job:
         self._do(LIBRARY.piecepick_job_hash)
 
     def settle(self) -> Answer:
-        """Tells the picker the verdict: HAD or FAILED. The bytes can be read still."""
+        """Tells the picker the verdict: COMPLETE or FAILED. The bytes can be read still."""
         with self._lock:
             if not self._is_open:
                 _fail("job_settle", Status.NO_JOB)

@@ -12,7 +12,7 @@ from support import ALL, BLOCK, CONTENT, DIGESTS, INFO, METAINFO, PARTS, PIECE, 
 import piecepick
 from piecepick import Answer, File, InputFault, Keeps, Kind, Picker, PickRule, PiecepickError, Reason, Status, hash_four, version
 
-STORED = [Kind.STORED, Kind.COMPLETED]
+STORED = [Kind.STORED, Kind.FULL]
 WITH_INTEREST = Answer(Kind.NOTED, interesting=True)
 
 
@@ -137,7 +137,7 @@ class Peers(CallCase):
             self.assertEqual([made.outstanding_at(0, 0), made.outstanding_at(0, 1)], [first, second])
             self.assert_status(Status.PLACE, made.outstanding_at, 0, 2)
             self.assertEqual(made.release(0, first.piece, first.begin).kind, Kind.QUIET)
-            self.assertEqual(made.release(0, first.piece, first.begin), refused(Reason.NOT_ASKED))
+            self.assertEqual(made.release(0, first.piece, first.begin), refused(Reason.NOT_REQUESTED))
             self.assertEqual(made.outstanding(0), 1)
 
     def test_reach(self) -> None:
@@ -281,11 +281,11 @@ class Late(CallCase):
         made = self.begin()
         self.assertEqual(made.late(2, 0, 0), refused(Reason.NOT_JOINED))
         for worker, piece, begin in ((1, 0, 0), (0, 0, BLOCK), (0, 0, 1), (0, 1, 0)):
-            self.assertEqual(made.late(worker, piece, begin), refused(Reason.NOT_ASKED))
+            self.assertEqual(made.late(worker, piece, begin), refused(Reason.NOT_REQUESTED))
         self.assert_status(Status.WORKER, made.late, 3, 0, 0)
         self.assert_status(Status.PIECE, made.late, 0, PIECES, 0)
         made.arrived(0, 0, 0, PARTS[0][:BLOCK])
-        self.assertEqual(made.late(0, 0, 0), refused(Reason.NOT_ASKED))
+        self.assertEqual(made.late(0, 0, 0), refused(Reason.NOT_REQUESTED))
 
     def test_twice_is_as_once(self) -> None:
         made = self.begin()
@@ -306,7 +306,7 @@ class Late(CallCase):
         for worker in range(2):
             made = self.begin()
             self.assertEqual(made.release(0, 0, 0), Answer(Kind.QUIET))
-            self.assertEqual(made.late(0, 0, 0), refused(Reason.NOT_ASKED))
+            self.assertEqual(made.late(0, 0, 0), refused(Reason.NOT_REQUESTED))
             self.assertEqual(made.outstanding(0), 0)
             self.assert_asked(made, worker, (0, 0), PickRule.RAREST)
 
@@ -319,8 +319,8 @@ class Late(CallCase):
             self.assertEqual(last, (Kind.STORED, (PIECES - 1, 0, BLOCK)))
             made.late(0, PIECES - 1, 0)
             self.assertIs(made.next(0).kind, Kind.IDLE)
-            self.assertIs(made.arrived(0, PIECES - 1, 0, PARTS[-1][:BLOCK]).kind, Kind.COMPLETED)
-            self.assertIs(made.settle(PIECES - 1, DIGESTS[-1]).kind, Kind.HAD)
+            self.assertIs(made.arrived(0, PIECES - 1, 0, PARTS[-1][:BLOCK]).kind, Kind.FULL)
+            self.assertIs(made.settle(PIECES - 1, DIGESTS[-1]).kind, Kind.COMPLETE)
             self.assertEqual((made.next(0).kind, made.is_complete), (Kind.NOTHING_LEFT, True))
 
     def test_endgame_is_another_rule(self) -> None:
@@ -438,7 +438,7 @@ class Endgame(unittest.TestCase):
         made = self.begin(b"\xff\xff\xff\xff\xff", rush=1)
         self.assertEqual((self.asked(made, 0), self.asked(made, 1)), (40, 1))
         block = made.outstanding_at(1, 0)
-        self.assertIs(made.arrived(0, block.piece, block.begin, bytes(BLOCK)).kind, Kind.COMPLETED)
+        self.assertIs(made.arrived(0, block.piece, block.begin, bytes(BLOCK)).kind, Kind.FULL)
         self.assertEqual(made.next(1), block._replace(kind=Kind.CANCEL))
         self.assertEqual(self.asked(made, 1), 1)
 
@@ -477,12 +477,12 @@ class Pieces(CallCase):
             self.assertEqual(made.discard(0, BLOCK).kind, Kind.FAILED)
             self.assertFalse(made.is_waiting(0))
             self.assertEqual(made.discard(0, 1), refused(Reason.NO_SUCH_BLOCK))
-            self.assertIs(made.arrived(0, 0, BLOCK, bytes(BLOCK)).kind, Kind.COMPLETED)
-            self.assertIs(made.settle(0, digest).kind, Kind.HAD)
+            self.assertIs(made.arrived(0, 0, BLOCK, bytes(BLOCK)).kind, Kind.FULL)
+            self.assertIs(made.settle(0, digest).kind, Kind.COMPLETE)
             self.assertEqual(made.discard(0, 0), refused(Reason.NOT_WAITING))
             before = made.epoch
             self.assertEqual(made.lose(0).kind, Kind.FAILED)
-            self.assertEqual((made.is_had(0), made.epoch > before), (False, True))
+            self.assertEqual((made.has_piece(0), made.epoch > before), (False, True))
             self.assertIs(made.arrived(0, 0, 0, bytes(BLOCK)).kind, Kind.STORED)
             self.assert_status(Status.PIECE, made.lose, 2)
             self.assert_status(Status.PIECE, made.discard, 2, 0)
@@ -540,7 +540,7 @@ class Rules(CallCase):
             self.assertEqual(self.ruled(made, 0), (1, PickRule.RANDOM))
             self.assertEqual(self.ruled(made, 0), (1, PickRule.BEGUN))
             bring(made, 1, PARTS[1])
-            self.assertIs(made.settle(1, DIGESTS[1]).kind, Kind.HAD)
+            self.assertIs(made.settle(1, DIGESTS[1]).kind, Kind.COMPLETE)
             self.assertEqual(self.ruled(made, 0), (2, PickRule.RAREST))
             made.set_in_order()
             self.assertEqual([self.ruled(made, 0) for _ in range(2)], [(0, PickRule.IN_ORDER)] * 2)
@@ -562,8 +562,8 @@ class Nothing(CallCase):
             self.assertTrue(made.is_waiting(1))
             self.assertEqual(made.settle(1, bytes(20)).kind, Kind.FAILED)
             self.assertEqual(bring(made, 1, PARTS[1]), STORED)
-            self.assertEqual(made.settle(1, bytearray(DIGESTS[1])).kind, Kind.HAD)
-            self.assertEqual((made.is_had(1), made.is_had(2), made.is_waiting(1)), (True, False, False))
+            self.assertEqual(made.settle(1, bytearray(DIGESTS[1])).kind, Kind.COMPLETE)
+            self.assertEqual((made.has_piece(1), made.has_piece(2), made.is_waiting(1)), (True, False, False))
             for digest in (b"", bytes(19), bytes(21)):
                 self.assertRaises(ValueError, made.settle, 1, digest)
 
@@ -573,8 +573,8 @@ class Nothing(CallCase):
             self.assertEqual(bring(made, 1, PARTS[1]), STORED)
             self.assertIs(made.verdict(1, False).kind, Kind.FAILED)
             self.assertEqual(bring(made, 1, PARTS[1]), STORED)
-            self.assertIs(made.verdict(1, True).kind, Kind.HAD)
-            self.assertTrue(made.is_had(1))
+            self.assertIs(made.verdict(1, True).kind, Kind.COMPLETE)
+            self.assertTrue(made.has_piece(1))
 
     def test_a_bad_copy_comes_second(self) -> None:
         file, bad = bytearray(PIECE), bytes(BLOCK)
@@ -582,11 +582,11 @@ class Nothing(CallCase):
             made.join(1)
             self.assertIs(bring_to(file, made, 0, 1, 0, PARTS[1][:BLOCK]), Kind.STORED)
             self.assertIs(bring_to(file, made, 1, 1, 0, bad), Kind.DROPPED)
-            self.assertIs(bring_to(file, made, 0, 1, BLOCK, PARTS[1][BLOCK:]), Kind.COMPLETED)
+            self.assertIs(bring_to(file, made, 0, 1, BLOCK, PARTS[1][BLOCK:]), Kind.FULL)
             self.assertIs(bring_to(file, made, 1, 1, BLOCK, bad), Kind.DROPPED)
             self.assertEqual([made.sender(1, 0), made.sender(1, 1)], [0, 0])
             self.assertEqual(file, PARTS[1])
-            self.assertIs(made.settle(1, hashlib.sha1(file).digest()).kind, Kind.HAD)
+            self.assertIs(made.settle(1, hashlib.sha1(file).digest()).kind, Kind.COMPLETE)
 
     def test_a_bad_copy_comes_first(self) -> None:
         file, bad = bytearray(PIECE), bytes(BLOCK)
@@ -594,7 +594,7 @@ class Nothing(CallCase):
             made.join(1)
             self.assertIs(bring_to(file, made, 1, 1, 0, bad), Kind.STORED)
             self.assertIs(bring_to(file, made, 0, 1, 0, PARTS[1][:BLOCK]), Kind.DROPPED)
-            self.assertIs(bring_to(file, made, 0, 1, BLOCK, PARTS[1][BLOCK:]), Kind.COMPLETED)
+            self.assertIs(bring_to(file, made, 0, 1, BLOCK, PARTS[1][BLOCK:]), Kind.FULL)
             self.assertEqual([made.sender(1, 0), made.sender(1, 1)], [1, 0])
             self.assertIs(made.settle(1, hashlib.sha1(file).digest()).kind, Kind.FAILED)
 
@@ -605,9 +605,9 @@ class Nothing(CallCase):
             self.assert_status(Status.LENGTH, made.restore, 2, 6, PARTS[6][1:], DIGESTS[6])
             self.assert_status(Status.WORKER, made.restore, 3, 6, PARTS[6], DIGESTS[6])
             self.assertEqual(made.restore(2, 6, PARTS[6], bytes(20)).kind, Kind.FAILED)
-            self.assertEqual(made.restore(2, 6, memoryview(PARTS[6]), DIGESTS[6]).kind, Kind.HAD)
+            self.assertEqual(made.restore(2, 6, memoryview(PARTS[6]), DIGESTS[6]).kind, Kind.COMPLETE)
             self.assert_status(Status.BEGUN, made.restore, 2, 6, PARTS[6], DIGESTS[6])
-            self.assertTrue(made.is_had(6))
+            self.assertTrue(made.has_piece(6))
 
     def test_what_it_lacks(self) -> None:
         with with_peer() as made:
@@ -626,10 +626,10 @@ class Begun(CallCase):
             got = {}
             while (answer := made.next(0)).kind is Kind.REQUEST:
                 piece, begin, length = answer.block
-                if made.arrived(0, piece, begin, memoryview(PARTS[piece])[begin : begin + length]).kind is Kind.COMPLETED:
+                if made.arrived(0, piece, begin, memoryview(PARTS[piece])[begin : begin + length]).kind is Kind.FULL:
                     with made.job_take(piece) as job:
                         job.hash()
-                        self.assertEqual(job.settle().kind, Kind.HAD)
+                        self.assertEqual(job.settle().kind, Kind.COMPLETE)
                         got[piece] = bytes(job.read())
             self.assertEqual(answer.kind, Kind.NOTHING_LEFT)
             self.assertTrue(made.is_complete)
@@ -645,11 +645,11 @@ class Begun(CallCase):
             self.assert_status(Status.NOT_HASHED, job.settle)
             self.assertEqual(job.read(), PARTS[1])
             job.hash()
-            self.assertEqual(job.settle().kind, Kind.HAD)
+            self.assertEqual(job.settle().kind, Kind.COMPLETE)
             self.assert_status(Status.NOT_WAITING, job.settle)
         self.assertEqual(job.read(), PARTS[1])
         self.assert_status(Status.LENGTH, job.read_into, bytearray(PIECE - 1))
-        self.assert_status(Status.SHUT, job.settle)
+        self.assert_status(Status.CLOSED, job.settle)
         job.close()
 
     def test_stale(self) -> None:
@@ -677,8 +677,8 @@ class Journal(CallCase):
         with with_peer(Keeps.JOURNAL) as made:
             for piece, part in enumerate(PARTS):
                 bring(made, piece, part)
-                self.assert_status(Status.NOT_HAD, made.read, piece)
-                self.assertEqual(made.settle_now(piece).kind, Kind.HAD)
+                self.assert_status(Status.INCOMPLETE, made.read, piece)
+                self.assertEqual(made.settle_now(piece).kind, Kind.COMPLETE)
                 self.assertEqual(made.read(piece), part)
             self.assert_status(Status.LENGTH, made.read_into, 0, bytearray(1))
             self.assert_status(Status.PIECE, made.settle_now, PIECES)

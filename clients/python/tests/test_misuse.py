@@ -33,7 +33,7 @@ class Closed(unittest.TestCase):
         for call, arguments in zip(calls, [(0,), (0,), (0,), (0,), (0,), ()]):
             with self.assertRaises(PiecepickError) as caught:
                 call(*arguments)
-            self.assertIs(caught.exception.status, Status.SHUT)
+            self.assertIs(caught.exception.status, Status.CLOSED)
         self.assertRaises(PiecepickError, lambda: made.epoch)
         self.assertRaises(PiecepickError, lambda: made.name)
 
@@ -176,7 +176,7 @@ class Threads(unittest.TestCase):
                     bring(made, piece, PARTS[piece])
                     with made.job_take(piece) as job:
                         job.hash()
-                        self.assertIs(job.settle().kind, Kind.HAD)
+                        self.assertIs(job.settle().kind, Kind.COMPLETE)
                 except Exception as error:
                     wrong.append(error)
 
@@ -207,7 +207,7 @@ class Threads(unittest.TestCase):
             made.close()
             for thread in threads:
                 thread.join()
-            self.assertEqual(statuses, [Status.SHUT] * 3)
+            self.assertEqual(statuses, [Status.CLOSED] * 3)
 
 
 if __name__ == "__main__":

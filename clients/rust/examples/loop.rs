@@ -61,7 +61,7 @@ fn ask(picker: &mut Picker, peer: &mut Peer, word: &mut u64) -> Result<(), Error
 fn check(picker: &mut Picker, piece: u32, file: &mut [u8], begin: usize) -> Result<(), Error> {
     let mut job = picker.job_take(piece)?;
     job.hash()?;
-    if picker.job_settle(&job)? == Answer::Had {
+    if picker.job_settle(&job)? == Answer::Complete {
         job.read_into(&mut file[begin..begin + job.length() as usize])?;
     }
     Ok(())
@@ -71,9 +71,9 @@ fn check(picker: &mut Picker, piece: u32, file: &mut [u8], begin: usize) -> Resu
 fn hear(picker: &mut Picker, peer: &mut Peer, file: &mut [u8], word: &mut u64) -> Result<(), Error> {
     if !peer.asked.is_empty() {
         let block = peer.asked.remove(0);
-        // The library keeps the copy that it stores. Where it keeps nothing, write the bytes at `Stored` and `Completed`, and at no other answer.
+        // The library keeps the copy that it stores. Where it keeps nothing, write the bytes at `Stored` and `Full`, and at no other answer.
         let answer = picker.arrived(peer.worker, block.piece, block.begin, peer.block(block))?;
-        if answer == Answer::Completed {
+        if answer == Answer::Full {
             check(picker, block.piece, file, block.piece as usize * peer.piece_length)?;
         }
     }

@@ -41,11 +41,11 @@ pub enum Answer {
     /// The block is held: where nothing is kept, write its bytes now.
     Stored,
     /// The block is held, and its piece is full now: write its bytes too, and check the piece.
-    Completed,
+    Full,
     /// The block was held already: it came twice, and these bytes are written nowhere.
     Dropped,
     /// The piece has its hash.
-    Had,
+    Complete,
     /// The piece has another hash, or bytes were reported lost or bad: its blocks, or that one, are held no more.
     Failed,
     /// A rule refused it: mostly the peer's fault, not the caller's.
@@ -66,9 +66,9 @@ pub enum Kind {
     Idle,
     NothingLeft,
     Stored,
-    Completed,
+    Full,
     Dropped,
-    Had,
+    Complete,
     Failed,
     Refused,
 }
@@ -95,7 +95,7 @@ pub enum Reason {
     /// The bytes that were hashed are no longer those held.
     Stale,
     /// The block isn't asked of the peer.
-    NotAsked,
+    NotRequested,
     /// A depth of 0, or beyond the deepest.
     WrongDepth,
     /// A level or a reach above 7, or an order from a level above 8.
@@ -115,7 +115,7 @@ impl Reason {
             7 => Reason::WrongLength,
             8 => Reason::NotWaiting,
             9 => Reason::Stale,
-            10 => Reason::NotAsked,
+            10 => Reason::NotRequested,
             11 => Reason::WrongDepth,
             12 => Reason::WrongLevel,
             _ => panic!("libpiecepick told the reason {number}, which its interface hasn't"),
@@ -135,7 +135,7 @@ impl fmt::Display for Reason {
             Reason::WrongLength => "wrong block length",
             Reason::NotWaiting => "the piece isn't waiting for a check: a block is lacking, or it is complete",
             Reason::Stale => "the bytes that were hashed aren't those that the picker holds now",
-            Reason::NotAsked => "the block isn't requested from this peer",
+            Reason::NotRequested => "the block isn't requested from this peer",
             Reason::WrongDepth => "the depth must be 1 to the option deepest",
             Reason::WrongLevel => "a level is out of its range: 0 to 7, or 0 to 8 for the order",
         })
@@ -202,9 +202,9 @@ impl Answer {
             8 => Answer::Idle,
             9 => Answer::NothingLeft,
             10 => Answer::Stored,
-            11 => Answer::Completed,
+            11 => Answer::Full,
             12 => Answer::Dropped,
-            13 => Answer::Had,
+            13 => Answer::Complete,
             14 => Answer::Failed,
             15 => Answer::Refused(Reason::of(told.reason)),
             kind => panic!("libpiecepick answered the kind {kind}, which its interface hasn't"),
@@ -224,9 +224,9 @@ impl Answer {
             Answer::Idle => Kind::Idle,
             Answer::NothingLeft => Kind::NothingLeft,
             Answer::Stored => Kind::Stored,
-            Answer::Completed => Kind::Completed,
+            Answer::Full => Kind::Full,
             Answer::Dropped => Kind::Dropped,
-            Answer::Had => Kind::Had,
+            Answer::Complete => Kind::Complete,
             Answer::Failed => Kind::Failed,
             Answer::Refused(_) => Kind::Refused,
         }

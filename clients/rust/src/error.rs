@@ -42,7 +42,7 @@ errors! {
     SpareBits = 6, "a spare bit at the end of the bitfield is set";
     Length = 7, "wrong buffer length: it must be exactly that of the item";
     Memory = 8, "out of memory";
-    NotHad = 9, "the piece isn't complete";
+    Incomplete = 9, "the piece isn't complete";
     Rules = 10, "an option is out of its range: depth, deepest, askers, random, open, rush or shown";
     NotWaiting = 11, "the piece isn't waiting for a check: a block is lacking, or it is complete";
     NotHashed = 13, "the job wasn't hashed yet";

@@ -115,7 +115,7 @@ impl Picker {
 
     /// A block came. A picker that keeps nothing reads none of the bytes; another one keeps a copy.
     ///
-    /// Where nothing is kept, write the bytes at `Stored` and `Completed`, and at no other answer: of two copies the first one counts.
+    /// Where nothing is kept, write the bytes at `Stored` and `Full`, and at no other answer: of two copies the first one counts.
     pub fn arrived(&mut self, worker: u32, piece: u32, begin: u32, bytes: &[u8]) -> Result<Answer, Error> {
         let (first, length) = (bytes.as_ptr(), bytes.len());
         self.answer(|picker, answer| unsafe { sys::piecepick_arrived(picker, worker, piece, begin, first, length, answer) })
@@ -214,7 +214,7 @@ impl Picker {
     }
 
     /// [`Keeps::Nothing`](crate::Keeps::Nothing): the piece is full, and this is the SHA-1 of its blocks as they were stored.
-    /// [`Answer::Had`] or [`Answer::Failed`].
+    /// [`Answer::Complete`] or [`Answer::Failed`].
     ///
     /// The digest has to be that of the bytes, which the library can't test. A wrong one breaks no memory, so this is safe. But the
     /// picker takes a bad piece for a good one then, or the other way round.
@@ -224,7 +224,7 @@ impl Picker {
     }
 
     /// [`Keeps::Nothing`](crate::Keeps::Nothing): the piece is full, and was compared: whether its blocks, as they were stored, have its
-    /// hash. [`Answer::Had`] or [`Answer::Failed`]. As with [`settle`](Self::settle), the library can't test it.
+    /// hash. [`Answer::Complete`] or [`Answer::Failed`]. As with [`settle`](Self::settle), the library can't test it.
     ///
     /// Where the disk couldn't be read nothing is known of the hash: tell [`discard`](Self::discard) of each block.
     pub fn verdict(&mut self, piece: u32, passed: bool) -> Result<Answer, Error> {
@@ -249,7 +249,7 @@ impl Picker {
         Ok(Job::of(pointer, piece, length))
     }
 
-    /// Tells the verdict of a job that was hashed: [`Answer::Had`] or [`Answer::Failed`]. Its bytes can be read still.
+    /// Tells the verdict of a job that was hashed: [`Answer::Complete`] or [`Answer::Failed`]. Its bytes can be read still.
     pub fn job_settle(&mut self, job: &Job) -> Result<Answer, Error> {
         let job = job.pointer.as_ptr();
         self.answer(|picker, answer| unsafe { sys::piecepick_job_settle(picker, job, answer) })
@@ -292,8 +292,8 @@ impl Picker {
     }
 
     /// Whether the piece has its hash.
-    pub fn is_had(&self, piece: u32) -> Result<bool, Error> {
-        Ok(self.number(|picker, number| unsafe { sys::piecepick_is_had(picker, piece, number) })? == 1)
+    pub fn has_piece(&self, piece: u32) -> Result<bool, Error> {
+        Ok(self.number(|picker, number| unsafe { sys::piecepick_has_piece(picker, piece, number) })? == 1)
     }
 
     /// Whether the piece is full, and waits for its check.
@@ -402,7 +402,7 @@ impl Picker {
         room
     }
 
-    /// [`Keeps::Journal`](crate::Keeps::Journal): hashes a full piece, here and now. [`Answer::Had`] or [`Answer::Failed`].
+    /// [`Keeps::Journal`](crate::Keeps::Journal): hashes a full piece, here and now. [`Answer::Complete`] or [`Answer::Failed`].
     pub fn settle_now(&mut self, piece: u32) -> Result<Answer, Error> {
         self.answer(|picker, answer| unsafe { sys::piecepick_settle_now(picker, piece, answer) })
     }

@@ -176,7 +176,7 @@ extern "C" {
     pub fn piecepick_is_in_order(picker: *mut piecepick_picker, number: *mut u32) -> piecepick_status;
     pub fn piecepick_order_from(picker: *mut piecepick_picker, number: *mut u32) -> piecepick_status;
     pub fn piecepick_epoch(picker: *mut piecepick_picker, number: *mut u64) -> piecepick_status;
-    pub fn piecepick_is_had(picker: *mut piecepick_picker, piece: u32, number: *mut u32) -> piecepick_status;
+    pub fn piecepick_has_piece(picker: *mut piecepick_picker, piece: u32, number: *mut u32) -> piecepick_status;
     pub fn piecepick_is_waiting(picker: *mut piecepick_picker, piece: u32, number: *mut u32) -> piecepick_status;
     pub fn piecepick_level(picker: *mut piecepick_picker, piece: u32, number: *mut u32) -> piecepick_status;
     pub fn piecepick_availability(picker: *mut piecepick_picker, piece: u32, number: *mut u32) -> piecepick_status;

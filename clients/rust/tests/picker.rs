@@ -57,7 +57,7 @@ fn bring(picker: &mut Picker, number: u32, bytes: &[u8]) {
     let blocks = bytes.chunks(BLOCK).count();
     for (index, block) in bytes.chunks(BLOCK).enumerate() {
         let answer = picker.arrived(0, number, (index * BLOCK) as u32, block);
-        assert_eq!(answer, Ok(if index + 1 == blocks { Answer::Completed } else { Answer::Stored }));
+        assert_eq!(answer, Ok(if index + 1 == blocks { Answer::Full } else { Answer::Stored }));
     }
 }
 
@@ -160,7 +160,7 @@ fn blocks_are_asked_and_released() {
     assert_eq!((picker.outstanding_at(0, 0), picker.outstanding_at(0, 1)), (Ok(first), Ok(second)));
     assert_eq!(picker.outstanding_at(0, 2), Err(Error::Place));
     assert_eq!(picker.release(0, first.piece, first.begin), Ok(Answer::Quiet));
-    assert_eq!(picker.release(0, first.piece, first.begin), Ok(Answer::Refused(Reason::NotAsked)));
+    assert_eq!(picker.release(0, first.piece, first.begin), Ok(Answer::Refused(Reason::NotRequested)));
     assert_eq!(picker.outstanding(0), Ok(1));
 }
 
@@ -232,12 +232,12 @@ fn what_is_not_asked_is_not_late() {
     let mut picker = with_late(4);
     assert_eq!(picker.late(2, 0, 0), Ok(Answer::Refused(Reason::NotJoined)));
     for (worker, piece, begin) in [(1, 0, 0), (0, 0, BLOCK as u32), (0, 0, 1), (0, 1, 0)] {
-        assert_eq!(picker.late(worker, piece, begin), Ok(Answer::Refused(Reason::NotAsked)));
+        assert_eq!(picker.late(worker, piece, begin), Ok(Answer::Refused(Reason::NotRequested)));
     }
     assert_eq!(picker.late(3, 0, 0), Err(Error::Worker));
     assert_eq!(picker.late(0, PIECES, 0), Err(Error::Piece));
     picker.arrived(0, 0, 0, &content[..BLOCK]).unwrap();
-    assert_eq!(picker.late(0, 0, 0), Ok(Answer::Refused(Reason::NotAsked)));
+    assert_eq!(picker.late(0, 0, 0), Ok(Answer::Refused(Reason::NotRequested)));
 }
 
 #[test]
@@ -260,7 +260,7 @@ fn a_choke_and_a_release_end_a_late_request() {
         assert_eq!(asked_by(&mut picker, worker), (0, 0, PickRule::Rarest));
         let mut picker = with_late(4);
         assert_eq!(picker.release(0, 0, 0), Ok(Answer::Quiet));
-        assert_eq!(picker.late(0, 0, 0), Ok(Answer::Refused(Reason::NotAsked)));
+        assert_eq!(picker.late(0, 0, 0), Ok(Answer::Refused(Reason::NotRequested)));
         assert_eq!(picker.outstanding(0), Ok(0));
         assert_eq!(asked_by(&mut picker, worker), (0, 0, PickRule::Rarest));
     }
@@ -273,15 +273,15 @@ fn the_only_peer_is_late_with_the_last_block() {
     let last = PIECES - 1;
     for number in 0..last {
         bring(&mut picker, number, piece(&content, number));
-        assert_eq!(picker.settle(number, &sha1(piece(&content, number))), Ok(Answer::Had));
+        assert_eq!(picker.settle(number, &sha1(piece(&content, number))), Ok(Answer::Complete));
     }
     let bytes = piece(&content, last);
     assert_eq!(picker.arrived(0, last, BLOCK as u32, &bytes[BLOCK..]), Ok(Answer::Stored));
     assert_eq!(asked_by(&mut picker, 0), (last, 0, PickRule::Begun));
     assert_eq!(picker.late(0, last, 0), Ok(Answer::Quiet));
     assert_eq!(picker.next(0, 0), Ok(Answer::Idle));
-    assert_eq!(picker.arrived(0, last, 0, &bytes[..BLOCK]), Ok(Answer::Completed));
-    assert_eq!(picker.settle(last, &sha1(bytes)), Ok(Answer::Had));
+    assert_eq!(picker.arrived(0, last, 0, &bytes[..BLOCK]), Ok(Answer::Full));
+    assert_eq!(picker.settle(last, &sha1(bytes)), Ok(Answer::Complete));
     assert_eq!((picker.next(0, 0), picker.is_complete()), (Ok(Answer::NothingLeft), true));
 }
 
@@ -497,7 +497,7 @@ fn endgame_asks_few_blocks_of_a_peer() {
     let mut picker = with_two_peers(usual.rush(1), [0xff; 5]);
     assert_eq!((asked(&mut picker, 0), asked(&mut picker, 1)), (40, 1));
     let block = picker.outstanding_at(1, 0).unwrap();
-    assert_eq!(picker.arrived(0, block.piece, block.begin, &[0; BLOCK]), Ok(Answer::Completed));
+    assert_eq!(picker.arrived(0, block.piece, block.begin, &[0; BLOCK]), Ok(Answer::Full));
     assert_eq!(picker.next(1, 0), Ok(Answer::Cancel(block)));
     assert_eq!(asked(&mut picker, 1), 1);
 }
@@ -598,7 +598,7 @@ fn a_request_tells_its_rule() {
     assert_eq!(ruled(&mut picker, 0), (1, PickRule::Random));
     assert_eq!(ruled(&mut picker, 0), (1, PickRule::Begun));
     bring(&mut picker, 1, piece(&content, 1));
-    assert_eq!(picker.settle(1, &sha1(piece(&content, 1))), Ok(Answer::Had));
+    assert_eq!(picker.settle(1, &sha1(piece(&content, 1))), Ok(Answer::Complete));
     assert_eq!(ruled(&mut picker, 0), (2, PickRule::Rarest));
     picker.set_in_order(true).unwrap();
     assert_eq!([(); 2].map(|()| ruled(&mut picker, 0)), [(0, PickRule::InOrder); 2]);
@@ -619,13 +619,13 @@ fn the_caller_hashes_what_it_keeps() {
     assert_eq!(picker.is_waiting(1), Ok(true));
     assert_eq!(picker.settle(1, &[0; 20]), Ok(Answer::Failed));
     bring(&mut picker, 1, piece(&content, 1));
-    assert_eq!(picker.settle(1, &sha1(piece(&content, 1))), Ok(Answer::Had));
-    assert_eq!((picker.is_had(1), picker.is_had(2)), (Ok(true), Ok(false)));
+    assert_eq!(picker.settle(1, &sha1(piece(&content, 1))), Ok(Answer::Complete));
+    assert_eq!((picker.has_piece(1), picker.has_piece(2)), (Ok(true), Ok(false)));
     assert_eq!(picker.verdict(2, true), Err(Error::NotWaiting));
     bring(&mut picker, 2, piece(&content, 2));
     assert_eq!(picker.verdict(2, false), Ok(Answer::Failed));
     bring(&mut picker, 2, piece(&content, 2));
-    assert_eq!((picker.verdict(2, true), picker.is_had(2)), (Ok(Answer::Had), Ok(true)));
+    assert_eq!((picker.verdict(2, true), picker.has_piece(2)), (Ok(Answer::Complete), Ok(true)));
     assert_eq!(picker.job_take(1).map(|_| ()), Err(Error::Keeps));
     assert_eq!(picker.settle_now(1), Err(Error::Keeps));
     assert_eq!(picker.read(1), Err(Error::Keeps));
@@ -635,7 +635,7 @@ fn the_caller_hashes_what_it_keeps() {
 /// A block comes to a client that keeps the content itself: it writes the bytes where they are stored, and at no other answer.
 fn bring_to(file: &mut [u8], picker: &mut Picker, worker: u32, number: u32, begin: usize, block: &[u8]) -> Answer {
     let answer = picker.arrived(worker, number, begin as u32, block).unwrap();
-    if matches!(answer, Answer::Stored | Answer::Completed) {
+    if matches!(answer, Answer::Stored | Answer::Full) {
         file[begin..begin + block.len()].copy_from_slice(block);
     }
     answer
@@ -649,10 +649,10 @@ fn a_bad_copy_that_comes_second_is_thrown_away() {
     picker.join(1).unwrap();
     assert_eq!(bring_to(&mut file, &mut picker, 0, 1, 0, &good[..BLOCK]), Answer::Stored);
     assert_eq!(bring_to(&mut file, &mut picker, 1, 1, 0, &bad), Answer::Dropped);
-    assert_eq!(bring_to(&mut file, &mut picker, 0, 1, BLOCK, &good[BLOCK..]), Answer::Completed);
+    assert_eq!(bring_to(&mut file, &mut picker, 0, 1, BLOCK, &good[BLOCK..]), Answer::Full);
     assert_eq!(bring_to(&mut file, &mut picker, 1, 1, BLOCK, &bad), Answer::Dropped);
     assert_eq!((picker.sender(1, 0), picker.sender(1, 1)), (Ok(0), Ok(0)));
-    assert_eq!(picker.settle(1, &sha1(&file)), Ok(Answer::Had));
+    assert_eq!(picker.settle(1, &sha1(&file)), Ok(Answer::Complete));
 }
 
 #[test]
@@ -663,7 +663,7 @@ fn a_bad_copy_that_comes_first_names_its_sender() {
     picker.join(1).unwrap();
     assert_eq!(bring_to(&mut file, &mut picker, 1, 1, 0, &bad), Answer::Stored);
     assert_eq!(bring_to(&mut file, &mut picker, 0, 1, 0, &good[..BLOCK]), Answer::Dropped);
-    assert_eq!(bring_to(&mut file, &mut picker, 0, 1, BLOCK, &good[BLOCK..]), Answer::Completed);
+    assert_eq!(bring_to(&mut file, &mut picker, 0, 1, BLOCK, &good[BLOCK..]), Answer::Full);
     assert_eq!((picker.sender(1, 0), picker.sender(1, 1)), (Ok(1), Ok(0)));
     assert_eq!(picker.settle(1, &sha1(&file)), Ok(Answer::Failed));
 }
@@ -677,7 +677,7 @@ fn what_a_disk_has_is_restored() {
     picker.join(2).unwrap();
     assert_eq!(picker.restore(2, 6, &whole[1..], &sha1(whole)), Err(Error::Length));
     assert_eq!(picker.restore(2, 6, whole, &[0; 20]), Ok(Answer::Failed));
-    assert_eq!(picker.restore(2, 6, whole, &sha1(whole)), Ok(Answer::Had));
+    assert_eq!(picker.restore(2, 6, whole, &sha1(whole)), Ok(Answer::Complete));
     assert_eq!(picker.restore(2, 6, whole, &sha1(whole)), Err(Error::Begun));
     assert_eq!(with_peer(Keeps::Begun).restore(0, 6, whole, &sha1(whole)), Err(Error::Keeps));
 }
@@ -691,7 +691,7 @@ fn a_job_hashes_away_from_its_picker() {
     let job = picker.job_take(1).unwrap();
     assert_eq!(picker.job_settle(&job), Err(Error::NotHashed));
     let job = thread::spawn(move || hashed(job)).join().unwrap();
-    assert_eq!(picker.job_settle(&job), Ok(Answer::Had));
+    assert_eq!(picker.job_settle(&job), Ok(Answer::Complete));
     assert_eq!(picker.job_settle(&job), Err(Error::NotWaiting));
     drop(picker);
     assert_eq!(job.read_into(&mut [0; 3]), Err(Error::Length));
@@ -721,8 +721,8 @@ fn a_journal_is_audited() {
     let mut picker = with_peer(Keeps::Journal);
     for number in 0..PIECES {
         bring(&mut picker, number, piece(&content, number));
-        assert_eq!(picker.read(number), Err(Error::NotHad));
-        assert_eq!(picker.settle_now(number), Ok(Answer::Had));
+        assert_eq!(picker.read(number), Err(Error::Incomplete));
+        assert_eq!(picker.settle_now(number), Ok(Answer::Complete));
         assert_eq!(picker.read(number).unwrap(), piece(&content, number));
     }
     assert_eq!(picker.read_into(0, &mut [0; 1]), Err(Error::Length));
@@ -740,7 +740,7 @@ fn threads_share_a_picker_by_a_mutex() {
             scope.spawn(move || {
                 bring(&mut picker.lock().unwrap(), number, bytes);
                 let job = picker.lock().unwrap().job_take(number).unwrap();
-                assert_eq!(picker.lock().unwrap().job_settle(&hashed(job)), Ok(Answer::Had));
+                assert_eq!(picker.lock().unwrap().job_settle(&hashed(job)), Ok(Answer::Complete));
             });
         }
     });

@@ -117,7 +117,7 @@ pub extern "C" fn piecepick_order_from(
 
 /// Whether the piece was checked, and had its hash.
 #[unsafe(no_mangle)]
-pub extern "C" fn piecepick_is_had(
+pub extern "C" fn piecepick_has_piece(
     alloc: Global,
     picker: &mut PickerHandle,
     piece: u32,
