@@ -227,6 +227,7 @@ public:
     [[nodiscard]] std::uint32_t sender(std::uint32_t piece, std::uint32_t index) { return number(piecepick_sender, piece, index); }
     [[nodiscard]] PickRule rule(std::uint32_t piece, std::uint32_t index) { return static_cast<PickRule>(number(piecepick_rule, piece, index)); }
     [[nodiscard]] std::uint32_t askers(std::uint32_t piece, std::uint32_t index) { return number(piecepick_askers, piece, index); }
+    [[nodiscard]] bool is_interesting(std::uint32_t worker) { return number(piecepick_is_interesting, worker) != 0; }
     [[nodiscard]] std::uint32_t outstanding(std::uint32_t worker) { return number(piecepick_outstanding, worker); }
     [[nodiscard]] Answer outstanding_at(std::uint32_t worker, std::uint32_t place) { return answer(piecepick_outstanding_at, worker, place); }
 

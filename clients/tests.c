@@ -695,6 +695,7 @@ static void no_worker(piecepick_picker *picker, uint32_t keeps, uint32_t worker)
     uint32_t number;
     for (size_t at = 0; at < AT_WORKERS; at++) NO_ANSWER(AT_WORKER[at](picker, worker, &answer), PIECEPICK_E_WORKER);
     NO_NUMBER(piecepick_outstanding(picker, worker, &number), PIECEPICK_E_WORKER);
+    NO_NUMBER(piecepick_is_interesting(picker, worker, &number), PIECEPICK_E_WORKER);
     NO_ANSWER(restore_of(picker, worker, &answer), keeps == PIECEPICK_KEEPS_NOTHING ? PIECEPICK_E_WORKER : PIECEPICK_E_KEEPS);
     /* The worker comes before the piece, the flags and the level. */
     NO_ANSWER(piecepick_have(picker, worker, pieces, &answer), PIECEPICK_E_WORKER);
@@ -902,16 +903,21 @@ static void try_wire(uint32_t keeps)
     piecepick_close(&picker);
 }
 
-/* Pieces on their way to being had, and what is wanted. */
+/* Pieces on their way to being complete, and what is wanted. */
 static void try_pieces(uint32_t keeps)
 {
     piecepick_picker *picker = open_for(keeps, 2);
     piecepick_answer answer;
     uint32_t number;
     uint8_t third[MOST_PIECES / 8] = {0x20};
+    NUMBER(piecepick_is_interesting(picker, 0, &number), 0); /* no peer has joined */
     QUIET(piecepick_want(picker, third, flags_len, &answer));
     for (uint32_t piece = 0; piece < pieces; piece++) NUMBER(piecepick_level(picker, piece, &number), piece == 2 ? 4 : 0);
+    GETS(piecepick_join(picker, 1, &answer), PIECEPICK_K_JOINED);
+    NOTED(piecepick_have(picker, 1, 1, &answer), 0);
+    NUMBER(piecepick_is_interesting(picker, 1, &number), 0); /* it shows nothing that is wanted */
     come(picker, 0);
+    NUMBER(piecepick_is_interesting(picker, 0, &number), 1);
     /* A piece that isn't wanted isn't asked for. */
     for (uint32_t index = 0; index < 2; index++) {
         EQUAL(piecepick_next(picker, 0, 9, &answer), PIECEPICK_OK);
@@ -923,7 +929,8 @@ static void try_pieces(uint32_t keeps)
     EQUAL(bring(picker, 0, 2, BLOCK, 1), PIECEPICK_K_FULL);
     NUMBER(piecepick_is_waiting(picker, 2, &number), 1);
     NUMBER(piecepick_has_piece(picker, 2, &number), 0);
-    GETS(piecepick_next(picker, 0, 9, &answer), PIECEPICK_K_IDLE); /* a full piece isn't had yet */
+    GETS(piecepick_next(picker, 0, 9, &answer), PIECEPICK_K_IDLE); /* a full piece isn't complete yet */
+    NUMBER(piecepick_is_interesting(picker, 0, &number), 1);
     EQUAL(settle(picker, keeps, 2, 1), PIECEPICK_K_FAILED);
     NUMBER(piecepick_is_waiting(picker, 2, &number), 0);
     NUMBER(piecepick_has_piece(picker, 2, &number), 0);
@@ -933,11 +940,13 @@ static void try_pieces(uint32_t keeps)
     NUMBER(piecepick_has_wanted(picker, &number), 1);
     NUMBER(piecepick_is_complete(picker, &number), 0);
     GETS(piecepick_next(picker, 0, 9, &answer), PIECEPICK_K_NOTHING_LEFT);
+    NUMBER(piecepick_is_interesting(picker, 0, &number), 0);
     EQUAL(bring(picker, 0, 2, 0, 0), PIECEPICK_K_DROPPED);
     /* A piece that isn't wanted comes all the same. */
     EQUAL(bring_whole(picker, keeps, 0, pieces - 1), PIECEPICK_K_COMPLETE);
     QUIET(piecepick_want(picker, all, flags_len, &answer));
     NUMBER(piecepick_has_wanted(picker, &number), 0);
+    for (uint32_t peer = 0; peer < 2; peer++) NUMBER(piecepick_is_interesting(picker, peer, &number), 1);
     for (uint32_t piece = 0; piece < pieces; piece++)
         if (piece != 2 && piece != pieces - 1) EQUAL(bring_whole(picker, keeps, 0, piece), PIECEPICK_K_COMPLETE);
     NUMBER(piecepick_has_wanted(picker, &number), 1);

@@ -144,6 +144,8 @@ int main()
     std::string file;
     bare.join(0);
     bare.join(1);
+    well = well && bare.have(0, 0).interesting == 1 && bare.is_interesting(0) && !bare.is_interesting(1);
+    well = well && throws(PIECEPICK_E_WORKER, [&] { (void)bare.is_interesting(9999); });
     for (std::uint32_t worker = 0; worker < 2; worker++) {
         const std::string block(1, static_cast<char>('0' + worker));
         const Answer answer = bare.arrived(worker, 0, 0, block);

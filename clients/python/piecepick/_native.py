@@ -8,8 +8,8 @@ from typing import Any
 
 from . import _texts
 
-ABI = 3
-VERSION_NUMBER = 30000
+ABI = 1
+VERSION_NUMBER = 10000
 
 
 class Status(IntEnum):
@@ -207,6 +207,7 @@ SIGNATURES: dict[str, tuple[Any, list[Any]]] = {
     "piecepick_sender": (c_uint32, [_PICKER, c_uint32, c_uint32, _NUMBER]),
     "piecepick_rule": (c_uint32, [_PICKER, c_uint32, c_uint32, _NUMBER]),
     "piecepick_askers": (c_uint32, [_PICKER, c_uint32, c_uint32, _NUMBER]),
+    "piecepick_is_interesting": (c_uint32, [_PICKER, c_uint32, _NUMBER]),
     "piecepick_outstanding": (c_uint32, [_PICKER, c_uint32, _NUMBER]),
     "piecepick_outstanding_at": (c_uint32, [_PICKER, c_uint32, c_uint32, _ANSWER]),
     "piecepick_total": (c_uint32, [_PICKER, _WIDE]),

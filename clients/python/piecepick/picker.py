@@ -567,8 +567,12 @@ class Picker:
         """Of how many peers a block is requested that aren't late with it. Right after its REQUEST the peer itself is one of them."""
         return self._count(LIBRARY.piecepick_askers, _u32(piece), _u32(index))
 
+    def is_interesting(self, worker: int) -> bool:
+        """Whether the worker's peer shows a wanted piece that isn't complete; False where no peer has joined."""
+        return bool(self._count(LIBRARY.piecepick_is_interesting, _u32(worker)))
+
     def outstanding(self, worker: int) -> int:
-        """How many blocks are asked of the worker's peer."""
+        """How many blocks are requested from the worker's peer."""
         return self._count(LIBRARY.piecepick_outstanding, _u32(worker))
 
     def outstanding_at(self, worker: int, place: int) -> Answer:

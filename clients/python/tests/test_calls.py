@@ -95,7 +95,7 @@ class Opening(CallCase):
                 self.assert_status(status, lambda choice: Picker(METAINFO, **choice), {name: number})
 
     def test_version(self) -> None:
-        self.assertEqual(version(), "3.0.0")
+        self.assertEqual(version(), "1.0.0")
 
 
 class Peers(CallCase):
@@ -573,6 +573,7 @@ class Nothing(CallCase):
             self.assertEqual(bring(made, 1, PARTS[1]), STORED)
             self.assertIs(made.verdict(1, False).kind, Kind.FAILED)
             self.assertEqual(bring(made, 1, PARTS[1]), STORED)
+            self.assertEqual((made.is_interesting(0), made.is_interesting(1)), (True, False))
             self.assertIs(made.verdict(1, True).kind, Kind.COMPLETE)
             self.assertTrue(made.has_piece(1))
 

@@ -339,7 +339,12 @@ impl Picker {
         self.number(|picker, number| unsafe { sys::piecepick_askers(picker, piece, index, number) })
     }
 
-    /// How many blocks are asked of the worker's peer.
+    /// Whether the worker's peer shows a wanted piece that isn't complete. It is no error where no peer has joined: false.
+    pub fn is_interesting(&self, worker: u32) -> Result<bool, Error> {
+        Ok(self.number(|picker, number| unsafe { sys::piecepick_is_interesting(picker, worker, number) })? == 1)
+    }
+
+    /// How many blocks are requested from the worker's peer.
     pub fn outstanding(&self, worker: u32) -> Result<u32, Error> {
         self.number(|picker, number| unsafe { sys::piecepick_outstanding(picker, worker, number) })
     }

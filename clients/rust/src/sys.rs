@@ -11,7 +11,7 @@ pub type piecepick_kind = u32;
 pub type piecepick_reason = u32;
 
 /// The interface that these declarations have.
-pub const PIECEPICK_ABI: u32 = 3;
+pub const PIECEPICK_ABI: u32 = 1;
 
 /// The picker of one download.
 #[repr(C)]
@@ -185,6 +185,7 @@ extern "C" {
     pub fn piecepick_sender(picker: *mut piecepick_picker, piece: u32, index: u32, worker: *mut u32) -> piecepick_status;
     pub fn piecepick_rule(picker: *mut piecepick_picker, piece: u32, index: u32, number: *mut u32) -> piecepick_status;
     pub fn piecepick_askers(picker: *mut piecepick_picker, piece: u32, index: u32, number: *mut u32) -> piecepick_status;
+    pub fn piecepick_is_interesting(picker: *mut piecepick_picker, worker: u32, number: *mut u32) -> piecepick_status;
     pub fn piecepick_outstanding(picker: *mut piecepick_picker, worker: u32, number: *mut u32) -> piecepick_status;
     pub fn piecepick_outstanding_at(
         picker: *mut piecepick_picker,

@@ -607,6 +607,9 @@ fn a_request_tells_its_rule() {
     assert_eq!([(); 2].map(|()| ruled(&mut picker, 1)), [(0, PickRule::Endgame); 2]);
     assert_eq!((picker.rule(PIECES, 0), picker.rule(0, 2)), (Err(Error::Piece), Err(Error::Block)));
     assert_eq!((picker.askers(0, 0), picker.askers(1, 0), picker.askers(0, 2)), (Ok(2), Ok(0), Err(Error::Block)));
+    assert_eq!((picker.is_interesting(0), picker.is_interesting(picker.workers())), (Ok(true), Err(Error::Worker)));
+    picker.want(&[0]).unwrap();
+    assert_eq!(picker.is_interesting(0), Ok(false));
     assert_eq!(PickRule::Endgame.to_string(), "endgame");
 }
 

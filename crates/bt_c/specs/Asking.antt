@@ -7,7 +7,7 @@ use Rattle.bt_meta.specs.Layout.{block, block_count, piece_count, piece_len}
 use Rattle.bt_history.specs.Legal.{IsLegal}
 use Rattle.bt_history.specs.PickRules.{rule_number, rule_of}
 use Rattle.bt_history.specs.Peers.{outstanding, depth_so_far}
-use Rattle.bt_history.specs.Pieces.{asker_count, availability, content, had, in_order, level, order_from, sender}
+use Rattle.bt_history.specs.Pieces.{asker_count, availability, content, had, in_order, interesting, level, order_from, sender}
 use Rattle.bt_picker.specs.Checks.{waits}
 use Rattle.bt_picker.specs.Contents.{complete, has_wanted}
 use Rattle.bt_picker.specs.Positions.{DeskState}
@@ -80,6 +80,12 @@ SaysRule d p k o = SaysOfBlock d p k (λ b. rule_number (rule_of d.setting d.his
 -- of how many peers block k of piece p is requested that aren't late with it
 abbrev pub SaysAskers : DeskState → ℕ → ℕ → Result ℕ Fault → Type 0
 SaysAskers d p k o = SaysOfBlock d p k (asker_count d.setting d.history) o
+
+-- whether worker w's peer shows a wanted piece that isn't had
+abbrev pub SaysInteresting : DeskState → ℕ → Result ℕ Fault → Type 0
+SaysInteresting d w (Ok x) = IsWorker d w × (x ≡ flag (interesting d.setting d.history w))
+SaysInteresting d w (Err Worker) = IsWorker d w → ⊥
+SaysInteresting d w (Err f) = ⊥
 
 -- how many blocks are asked of worker w's peer, which are no more than the greatest depth that it had since nothing was asked of it
 abbrev pub CountsOutstanding : DeskState → ℕ → Result ℕ Fault → Type 0

@@ -2,7 +2,7 @@
 ghost use Rattle.std.specs.Prelude.{◌≡◌, ◌%◌, ◌^◌};
 ghost use Rattle.bt_history.specs.Epochs.{epoch};
 ghost use Rattle.bt_c.specs.Asking.{Audits, AuditsBy, CountsOutstanding, IsOutstanding, Reads, ReadsFrom, SaysOfContent};
-ghost use Rattle.bt_c.specs.Asking.{SaysAskers, SaysOfPiece, SaysRule, SaysSender, number_of, number_of_piece};
+ghost use Rattle.bt_c.specs.Asking.{SaysAskers, SaysInteresting, SaysOfPiece, SaysRule, SaysSender, number_of, number_of_piece};
 ghost use Rattle.bt_history.specs.Setting.{AreRules};
 ghost use Rattle.bt_c.specs.Behind.{state};
 ghost use Rattle.bt_c.specs.Rules.{rules_of_setting};
@@ -132,6 +132,17 @@ impl Held {
             return Err(Fault::Block);
         }
         Ok(self.engine.picker().askers(piece, index))
+    }
+
+    /// Whether the worker's peer shows a wanted piece that isn't had: 1 or 0.
+    pub fn is_interesting(&self, worker: u32) -> Result<u32, Fault>
+        ensures { SaysInteresting (state self.now) worker result }
+    {
+        let picker = self.engine.picker();
+        if worker >= picker.workers() {
+            return Err(Fault::Worker);
+        }
+        Ok(u32::from(picker.is_interesting(worker)))
     }
 
     /// How many blocks are asked of the worker's peer.

@@ -11,7 +11,7 @@ ghost use Rattle.bt_history.specs.Legal.{IsLegal, same_bytes};
 ghost use Rattle.bt_history.specs.Picks.{ArePicked};
 ghost use Rattle.bt_history.specs.PickRules.{rule_of};
 ghost use Rattle.bt_history.specs.Peers.{alone, outstanding, reach};
-ghost use Rattle.bt_history.specs.Pieces.{asker_count, availability, content, had, in_order, level, order_from, sender, wanted};
+ghost use Rattle.bt_history.specs.Pieces.{asker_count, availability, content, had, in_order, interesting, level, order_from, sender, wanted};
 ghost use Rattle.bt_picker.specs.Search.{IsLevel};
 ghost use Rattle.bt_history.specs.Setting.{AreRules, setting_of};
 ghost use Rattle.bt_picker.specs.Checks.{IsCurrent, is_right, settling, waits};
@@ -362,6 +362,14 @@ impl Picker {
         ensures { result ≡ asker_count self.now.setting self.now.history (block self.now.setting.torrent piece index) }
     {
         self.position().asker_count(piece, index)
+    }
+
+    /// Whether the worker's peer shows a wanted piece that isn't had.
+    pub fn is_interesting(&self, worker: u32) -> bool
+        requires { worker < self.now.setting.workers }
+        ensures { result ≡ interesting self.now.setting self.now.history worker }
+    {
+        self.position().is_interesting(worker)
     }
 
     /// Answers what the worker tells.

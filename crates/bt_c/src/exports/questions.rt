@@ -1,7 +1,7 @@
 //! The calls of C that ask a picker for a number.
 ghost use Rattle.std.specs.Prelude.{◌≡◌, ◌%◌, ◌^◌};
 ghost use Rattle.bt_history.specs.Epochs.{epoch};
-ghost use Rattle.bt_c.specs.Asking.{CountsOutstanding, IsOutstanding, Says, SaysAskers, SaysOfPiece, SaysRule, SaysSender, number_of, number_of_piece};
+ghost use Rattle.bt_c.specs.Asking.{CountsOutstanding, IsOutstanding, Says, SaysAskers, SaysInteresting, SaysOfPiece, SaysRule, SaysSender, number_of, number_of_piece};
 ghost use Rattle.bt_c.specs.Behind.{state};
 ghost use Rattle.bt_c.specs.declared.asking.Question.TheVariants as questions;
 ghost use Rattle.bt_c.specs.declared.asking.PieceQuestion.TheVariants as of_piece;
@@ -281,6 +281,23 @@ pub extern "C" fn piecepick_askers(
 {
     tell_number(
         lend(alloc, picker, |held| held.askers(piece, index)),
+        number,
+    )
+}
+
+/// Whether the worker's peer shows a wanted piece that isn't had.
+#[unsafe(no_mangle)]
+pub extern "C" fn piecepick_is_interesting(
+    alloc: Global,
+    picker: &mut PickerHandle,
+    worker: u32,
+    number: &mut u32,
+) -> u32
+    ensures same { picker.new.held ≡ picker.old.held }
+    ensures says { TellsNumber (λ h o. SaysInteresting (state h) worker o) picker.old.held result number.new }
+{
+    tell_number(
+        lend(alloc, picker, |held| held.is_interesting(worker)),
         number,
     )
 }
