@@ -16,7 +16,7 @@ use Rattle.bt_c.specs.declared.asking.Question.TheVariants.{Pieces, Workers, Com
 use Rattle.bt_c.specs.declared.asking.PieceQuestion.{PieceQuestion}
 use Rattle.bt_c.specs.declared.asking.PieceQuestion.TheVariants.{Had, Waiting, Level, Availability, Length, Blocks}
 use Rattle.bt_c.specs.declared.fault.Fault.{Fault}
-use Rattle.bt_c.specs.declared.fault.Fault.TheVariants.{Worker, Piece, Room, NotHad, NoMemory, Place, Keeps, Block as BlockFault, NotHeld}
+use Rattle.bt_c.specs.declared.fault.Fault.TheVariants.{Worker, Piece, Room, Incomplete, NoMemory, Place, Keeps, Block as BlockFault, NotHeld}
 use Rattle.bt_c.specs.declared.engine.Keeping.TheVariants.{Journal}
 use Rattle.bt_c.specs.declared.held.Held.{Held}
 use Rattle.bt_c.specs.Behind.{keeping, state}
@@ -105,14 +105,14 @@ IsOutstanding d w place (Err f) = ⊥
 abbrev pub SaysOfContent : DeskState → ℕ → Result ℕ Fault → Type 0
 SaysOfContent d p (Ok n) = IsPiece d p × (had d.history p ≡ true) × (n ≡ length (content d.setting d.history p))
 SaysOfContent d p (Err Piece) = IsPiece d p → ⊥
-SaysOfContent d p (Err NotHad) = IsPiece d p × (had d.history p ≡ false)
+SaysOfContent d p (Err Incomplete) = IsPiece d p × (had d.history p ≡ false)
 SaysOfContent d p (Err f) = ⊥
 
 -- the room gets the content of piece p where that is had, and has its length; else nothing is written
 abbrev pub ReadsFrom : DeskState → ℕ → List ℕ → List ℕ → Done → Type 0
 ReadsFrom d p old new (Ok u) = IsPiece d p × (had d.history p ≡ true) × (new ≡ content d.setting d.history p)
 ReadsFrom d p old new (Err Piece) = (IsPiece d p → ⊥) × (new ≡ old)
-ReadsFrom d p old new (Err NotHad) = IsPiece d p × (had d.history p ≡ false) × (new ≡ old)
+ReadsFrom d p old new (Err Incomplete) = IsPiece d p × (had d.history p ≡ false) × (new ≡ old)
 ReadsFrom d p old new (Err Room) = IsPiece d p × (had d.history p ≡ true)
     × ((length old ≡ length (content d.setting d.history p)) → ⊥) × (new ≡ old)
 ReadsFrom d p old new (Err f) = ⊥

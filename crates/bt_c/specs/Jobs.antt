@@ -18,7 +18,7 @@ use Rattle.bt_c.specs.declared.check.Check.TheVariants.{Due, Hashed, Ready}
 use Rattle.bt_c.specs.declared.engine.Keeping.{Keeping}
 use Rattle.bt_c.specs.declared.engine.Keeping.TheVariants.{Journal, Nothing}
 use Rattle.bt_c.specs.declared.fault.Fault.{Fault}
-use Rattle.bt_c.specs.declared.fault.Fault.TheVariants.{Shut, Open, Piece, NoMemory, NotWaiting, NoJob, NotHashed, Keeps, Stale, Room}
+use Rattle.bt_c.specs.declared.fault.Fault.TheVariants.{Closed, Open, Piece, NoMemory, NotWaiting, NoJob, NotHashed, Keeps, Stale, Room}
 use Rattle.bt_c.specs.declared.held.Held.{Held}
 use Rattle.bt_c.specs.Behind.{keeping, state}
 use Rattle.bt_c.specs.Calling.{IsPiece}
@@ -61,7 +61,7 @@ TakesJob None new h p o = ⊥
 
 -- the same at a handle of a picker: where there is none, the pointer of the job stays as it is
 abbrev pub PutsJob : Option Held → Option handle.the_row.Denot → Option handle.the_row.Denot → ℕ → Done → Type 0
-PutsJob None old new p o = (new ≡ old) × (o ≡ Err Shut)
+PutsJob None old new p o = (new ≡ old) × (o ≡ Err Closed)
 PutsJob (Some h) old new p o = TakesJob old new h p o
 
 -- the status tells it

@@ -8,7 +8,7 @@ use Rattle.bt_history.specs.declared.call.Reply.TheVariants.{Request}
 use Rattle.bt_picker.specs.Positions.{DeskState}
 use Rattle.bt_c.specs.declared.answer.Answer.{Answer}
 use Rattle.bt_c.specs.declared.fault.Fault.{Fault}
-use Rattle.bt_c.specs.declared.fault.Fault.TheVariants.{Shut}
+use Rattle.bt_c.specs.declared.fault.Fault.TheVariants.{Closed}
 use Rattle.bt_c.specs.declared.held.Held.{Held}
 use Rattle.bt_c.specs.Answers.{answer_of, nothing}
 use Rattle.bt_c.specs.Behind.{keeping, state}
@@ -50,7 +50,7 @@ pub record StaysItself (h k : Held) : Type 0 where
 
 -- a handle lends its picker to a call: a null one stays null and says so, and an open one stays open, its picker changed as P says
 abbrev pub Lends : {X : Type 0} → (Held → Result X Fault → Held → Type 0) → Option Held → Option Held → Result X Fault → Type 0
-Lends P None new o = (new ≡ None) × (o ≡ Err Shut)
+Lends P None new o = (new ≡ None) × (o ≡ Err Closed)
 Lends P (Some h) None o = ⊥
 Lends P (Some h) (Some k) o = P h o k
 
@@ -61,7 +61,7 @@ AtHandle P = Lends (λ h o k. StaysItself h k × P h (state k) o)
 
 -- a question to a handle, which changes nothing: a null one has no answer
 abbrev pub AtOpen : {X : Type 0} → (Held → Result X Fault → Type 0) → Option Held → Result X Fault → Type 0
-AtOpen P None o = o ≡ Err Shut
+AtOpen P None o = o ≡ Err Closed
 AtOpen P (Some h) o = P h o
 
 -- the status and the answer tell what came of a call at a handle

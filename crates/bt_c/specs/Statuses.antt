@@ -6,12 +6,12 @@ use Rattle.bt_meta.specs.Faults as meta
 use Rattle.bt_c.specs.declared.engine.Untold.{Untold}
 use Rattle.bt_c.specs.declared.engine.Untold.TheVariants as untold
 use Rattle.bt_c.specs.declared.fault.Fault.{Fault}
-use Rattle.bt_c.specs.declared.fault.Fault.TheVariants.{Shut, Open, Worker, Piece, BitsLength, SpareBits, Room, NoMemory, NotHad, Rules, NotWaiting}
+use Rattle.bt_c.specs.declared.fault.Fault.TheVariants.{Closed, Open, Worker, Piece, BitsLength, SpareBits, Room, NoMemory, Incomplete, Rules, NotWaiting}
 use Rattle.bt_c.specs.declared.fault.Fault.TheVariants.{NoJob, NotHashed, Place, Keeps, Options, Stale, Block, NotHeld, Begun, File, Part, Metainfo}
 
 -- the status that tells a fault; 0 tells that there was none
 abbrev pub fault_number : Fault → ℕ
-fault_number Shut = 1
+fault_number Closed = 1
 fault_number Open = 2
 fault_number Worker = 3
 fault_number Piece = 4
@@ -19,7 +19,7 @@ fault_number BitsLength = 5
 fault_number SpareBits = 6
 fault_number Room = 7
 fault_number NoMemory = 8
-fault_number NotHad = 9
+fault_number Incomplete = 9
 fault_number Rules = 10
 fault_number NotWaiting = 11
 fault_number NoJob = 12

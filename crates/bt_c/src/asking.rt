@@ -202,7 +202,7 @@ fn content_len(desk: &Desk, piece: u32) -> Result<u32, Fault>
         return Err(Fault::Piece);
     }
     if !desk.had(piece) {
-        return Err(Fault::NotHad);
+        return Err(Fault::Incomplete);
     }
     // It is the piece's, since in a legal journal each block that is held has its length.
     let _legal = desk.journal();
@@ -220,7 +220,7 @@ fn read(desk: &Desk, piece: u32, room: &mut [u8]) -> Result<(), Fault>
     match desk.write_piece(&mut Buffer::new(room), piece) {
         // A room refuses where it is full, and then it has all of the content.
         Ok(()) | Err(ContentFault::WriteFault) => Ok(()),
-        Err(ContentFault::Incomplete) => Err(Fault::NotHad),
+        Err(ContentFault::Incomplete) => Err(Fault::Incomplete),
     }
 }
 

@@ -11,7 +11,7 @@ use std::alloc::{AllocError, AllocFailed};
 #[derive(Clone, Copy, Debug, PartialEq, Eq)]
 pub enum Fault {
     /// The handle holds nothing. No pointer that was opened has such a handle.
-    Shut,
+    Closed,
     /// The pointer that is to be filled isn't NULL.
     Open,
     /// No such worker; or, where a picker is to be made, a number of workers that isn't 1 to 1,024.
@@ -26,7 +26,7 @@ pub enum Fault {
     Room,
     NoMemory,
     /// The piece isn't had.
-    NotHad,
+    Incomplete,
     /// A depth that isn't 1 to 64, a greatest one that isn't 1 to 4,096, no askers, more pieces at random than there are, more than 1,024 open
     /// ones, a `rush` above 4,096, or a `shown` above 1.
     Rules,
@@ -64,7 +64,7 @@ impl Fault {
         ensures { result ≡ fault_number self }
     {
         match self {
-            Fault::Shut => 1,
+            Fault::Closed => 1,
             Fault::Open => 2,
             Fault::Worker => 3,
             Fault::Piece => 4,
@@ -72,7 +72,7 @@ impl Fault {
             Fault::SpareBits => 6,
             Fault::Room => 7,
             Fault::NoMemory => 8,
-            Fault::NotHad => 9,
+            Fault::Incomplete => 9,
             Fault::Rules => 10,
             Fault::NotWaiting => 11,
             Fault::NoJob => 12,

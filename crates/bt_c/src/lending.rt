@@ -19,7 +19,7 @@ pub fn lend<X, F: FnOnce(&mut Held) -> Result<X, Fault>>(
     ensures { Lends (λ h o k. FnOnceReturnsAtMut F.FnOnce call h o k) picker.old.held picker.new.held result }
 {
     let Some(mut held) = picker.take(alloc) else {
-        return Err(Fault::Shut);
+        return Err(Fault::Closed);
     };
     let outcome = call(&mut held);
     *picker = holding(held);

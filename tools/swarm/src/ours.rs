@@ -127,8 +127,8 @@ impl Rule for Ours {
         match self.picker.arrived(slot.into(), block.piece, block.index * BLOCK, &BYTES)? {
             Answer::Stored => Ok(Came::Stored),
             Answer::Dropped => Ok(Came::Twice),
-            Answer::Completed => {
-                expect("settle", self.picker.settle(block.piece, &self.digest)?, Answer::Had)?;
+            Answer::Full => {
+                expect("settle", self.picker.settle(block.piece, &self.digest)?, Answer::Complete)?;
                 Ok(Came::Completed)
             }
             other => Err(Fault::Answer("arrived", other)),

@@ -24,7 +24,7 @@ fn take_job(
     ensures same { picker.new.held ≡ picker.old.held }
     ensures puts { PutsJob picker.old.held job.old.job job.new.job piece result }
 {
-    let held = picker.take(alloc).ok_or(Fault::Shut)?;
+    let held = picker.take(alloc).ok_or(Fault::Closed)?;
     let done = held.take_job(alloc, piece, job);
     *picker = holding(held);
     done
@@ -35,7 +35,7 @@ fn settle(alloc: Global, picker: &mut PickerHandle, job: &mut JobHandle) -> Resu
     ensures same { job.new.check ≡ job.old.check }
     ensures tells { AtHandle (λ h e o. TellsVerdict job.old.check h e o) picker.old.held picker.new.held result }
 {
-    let mut held = picker.take(alloc).ok_or(Fault::Shut)?;
+    let mut held = picker.take(alloc).ok_or(Fault::Closed)?;
     let outcome = held.settle_job(alloc, job);
     *picker = holding(held);
     outcome

@@ -19,7 +19,7 @@ fn read(alloc: Global, picker: &mut PickerHandle, piece: u32, room: &mut [u8]) -
     ensures shut { picker.old.held ≡ None → room.new ≡ room.old }
     ensures reads { AtOpen (λ h o. Reads h piece room.old room.new o) picker.old.held result }
 {
-    let held = picker.take(alloc).ok_or(Fault::Shut)?;
+    let held = picker.take(alloc).ok_or(Fault::Closed)?;
     let done = held.read(piece, room);
     *picker = holding(held);
     done

@@ -44,7 +44,7 @@ fn call_in_place(
 ) -> Result<Reply, Fault>
     ensures { AtHandle (λ h e o. Makes h e worker (action_told told.entry) o) picker.old.held picker.new.held result }
 {
-    let mut held = picker.take(alloc).ok_or(Fault::Shut)?;
+    let mut held = picker.take(alloc).ok_or(Fault::Closed)?;
     let outcome = held.call(alloc, worker, told);
     *picker = holding(held);
     outcome
@@ -74,7 +74,7 @@ fn call_at_in_place(
 ) -> Result<Reply, Fault>
     ensures { AtHandle (λ h e o. MakesAt h e worker piece (action_told told.entry) o) picker.old.held picker.new.held result }
 {
-    let mut held = picker.take(alloc).ok_or(Fault::Shut)?;
+    let mut held = picker.take(alloc).ok_or(Fault::Closed)?;
     let outcome = held.call_at(alloc, worker, piece, told);
     *picker = holding(held);
     outcome

@@ -17,7 +17,7 @@ fn ask(alloc: Global, picker: &mut PickerHandle, question: TorrentQuestion) -> R
     ensures same { picker.new.held ≡ picker.old.held }
     ensures says { AtOpen (λ h o. o ≡ number_of_torrent h question) picker.old.held result }
 {
-    let held = picker.take(alloc).ok_or(Fault::Shut)?;
+    let held = picker.take(alloc).ok_or(Fault::Closed)?;
     let outcome = held.ask_of_torrent(question);
     *picker = holding(held);
     outcome
@@ -29,7 +29,7 @@ fn put_name(alloc: Global, picker: &mut PickerHandle, room: &mut [u8]) -> Result
     ensures shut { picker.old.held ≡ None → room.new ≡ room.old }
     ensures puts { AtOpen (λ h o. PutsBytes h.torrent.value.name room.old room.new o) picker.old.held result }
 {
-    let held = picker.take(alloc).ok_or(Fault::Shut)?;
+    let held = picker.take(alloc).ok_or(Fault::Closed)?;
     let done = held.put_name(room);
     *picker = holding(held);
     done
@@ -47,7 +47,7 @@ fn put_part(
     ensures shut { picker.old.held ≡ None → room.new ≡ room.old }
     ensures puts { AtOpen (λ h o. PutsIfAny (part_at h.files.items file part) room.old room.new o) picker.old.held result }
 {
-    let held = picker.take(alloc).ok_or(Fault::Shut)?;
+    let held = picker.take(alloc).ok_or(Fault::Closed)?;
     let done = held.put_part(file, part, room);
     *picker = holding(held);
     done
@@ -59,7 +59,7 @@ fn put_infohash(alloc: Global, picker: &mut PickerHandle, digest: &mut Digest) -
     ensures shut { picker.old.held ≡ None → digest.new ≡ digest.old }
     ensures puts { AtOpen (λ h o. PutsInfohash h.torrent.value digest.new.bytes o) picker.old.held result }
 {
-    let held = picker.take(alloc).ok_or(Fault::Shut)?;
+    let held = picker.take(alloc).ok_or(Fault::Closed)?;
     digest.bytes = *held.torrent.infohash();
     *picker = holding(held);
     Ok(())
@@ -76,7 +76,7 @@ fn put_hash(
     ensures shut { picker.old.held ≡ None → digest.new ≡ digest.old }
     ensures puts { AtOpen (λ h o. PutsHash h.torrent.value piece digest.old.bytes digest.new.bytes o) picker.old.held result }
 {
-    let held = picker.take(alloc).ok_or(Fault::Shut)?;
+    let held = picker.take(alloc).ok_or(Fault::Closed)?;
     let done = held.put_hash(piece, digest);
     *picker = holding(held);
     done
