@@ -167,7 +167,7 @@ extern "C" {
     pub fn piecepick_job_take(picker: *mut piecepick_picker, piece: u32, job: *mut *mut piecepick_job) -> piecepick_status;
     pub fn piecepick_job_hash(job: *mut piecepick_job) -> piecepick_status;
     pub fn piecepick_job_settle(picker: *mut piecepick_picker, job: *mut piecepick_job, answer: *mut piecepick_answer) -> piecepick_status;
-    pub fn piecepick_job_read(job: *mut piecepick_job, room: *mut u8, room_len: usize) -> piecepick_status;
+    pub fn piecepick_job_read(job: *mut piecepick_job, buffer: *mut u8, buffer_len: usize) -> piecepick_status;
     pub fn piecepick_job_close(job: *mut *mut piecepick_job);
     pub fn piecepick_pieces(picker: *mut piecepick_picker, number: *mut u32) -> piecepick_status;
     pub fn piecepick_workers(picker: *mut piecepick_picker, number: *mut u32) -> piecepick_status;
@@ -195,12 +195,12 @@ extern "C" {
     ) -> piecepick_status;
     pub fn piecepick_total(picker: *mut piecepick_picker, number: *mut u64) -> piecepick_status;
     pub fn piecepick_name_length(picker: *mut piecepick_picker, number: *mut u64) -> piecepick_status;
-    pub fn piecepick_name(picker: *mut piecepick_picker, room: *mut u8, room_len: usize) -> piecepick_status;
+    pub fn piecepick_name(picker: *mut piecepick_picker, buffer: *mut u8, buffer_len: usize) -> piecepick_status;
     pub fn piecepick_files(picker: *mut piecepick_picker, number: *mut u64) -> piecepick_status;
     pub fn piecepick_file_length(picker: *mut piecepick_picker, file: u64, number: *mut u64) -> piecepick_status;
     pub fn piecepick_file_parts(picker: *mut piecepick_picker, file: u64, number: *mut u64) -> piecepick_status;
     pub fn piecepick_file_part_length(picker: *mut piecepick_picker, file: u64, part: u64, number: *mut u64) -> piecepick_status;
-    pub fn piecepick_file_part(picker: *mut piecepick_picker, file: u64, part: u64, room: *mut u8, room_len: usize) -> piecepick_status;
+    pub fn piecepick_file_part(picker: *mut piecepick_picker, file: u64, part: u64, buffer: *mut u8, buffer_len: usize) -> piecepick_status;
     pub fn piecepick_infohash(picker: *mut piecepick_picker, digest: *mut piecepick_digest) -> piecepick_status;
     pub fn piecepick_piece_hash(picker: *mut piecepick_picker, piece: u32, digest: *mut piecepick_digest) -> piecepick_status;
     pub fn piecepick_hash(message: *const u8, message_len: usize, digest: *mut piecepick_digest);
@@ -217,6 +217,6 @@ extern "C" {
         digests_len: usize,
     ) -> piecepick_status;
     pub fn piecepick_settle_now(picker: *mut piecepick_picker, piece: u32, answer: *mut piecepick_answer) -> piecepick_status;
-    pub fn piecepick_read(picker: *mut piecepick_picker, piece: u32, room: *mut u8, room_len: usize) -> piecepick_status;
+    pub fn piecepick_read(picker: *mut piecepick_picker, piece: u32, buffer: *mut u8, buffer_len: usize) -> piecepick_status;
     pub fn piecepick_audit(picker: *mut piecepick_picker) -> piecepick_status;
 }

@@ -18,17 +18,17 @@ pub extern "C" fn piecepick_hash(message: &[u8], digest: &mut Digest)
     digest.bytes = Sha1::digest(message);
 }
 
-/// Writes the digests into the room, one behind the other.
-fn put_digests(digests: &[[u8; 20]; 4], room: &mut [u8])
-    requires { length room.old ≡ 80 }
-    ensures { room.new ≡ concat digests.now }
+/// Writes the digests into the buffer, one behind the other.
+fn put_digests(digests: &[[u8; 20]; 4], buffer: &mut [u8])
+    requires { length buffer.old ≡ 80 }
+    ensures { buffer.new ≡ concat digests.now }
 {
     for i in 0..4 {
-        room[20 * i..20 * i + 20].copy_from_slice(&digests[i]);
+        buffer[20 * i..20 * i + 20].copy_from_slice(&digests[i]);
     }
 }
 
-/// Hashes the four messages into the room.
+/// Hashes the four messages into the buffer.
 fn hash_into(
     first: &[u8],
     second: &[u8],
@@ -45,7 +45,7 @@ fn hash_into(
     Ok(())
 }
 
-/// Writes the SHA-1 of each of four messages into a room of 80 bytes, in their order. The lengths may be any. Four messages of one length
+/// Writes the SHA-1 of each of four messages into a buffer of 80 bytes, in their order. The lengths may be any. Four messages of one length
 /// are hashed side by side, which is faster. Takes no memory.
 #[unsafe(no_mangle)]
 pub extern "C" fn piecepick_hash_four(

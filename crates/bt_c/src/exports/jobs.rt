@@ -78,13 +78,13 @@ pub extern "C" fn piecepick_job_settle(
     tell(settle(alloc, picker, job), answer)
 }
 
-/// Writes the bytes of the job's piece into a room of their number, whether it was hashed or not. Takes no memory.
+/// Writes the bytes of the job's piece into a buffer of their number, whether it was hashed or not. Takes no memory.
 #[unsafe(no_mangle)]
-pub extern "C" fn piecepick_job_read(alloc: Global, job: &mut JobHandle, room: &mut [u8]) -> u32
+pub extern "C" fn piecepick_job_read(alloc: Global, job: &mut JobHandle, buffer: &mut [u8]) -> u32
     ensures same { job.new.check ≡ job.old.check }
-    ensures reads { TellsRead job.old.check room.old room.new result }
+    ensures reads { TellsRead job.old.check buffer.old buffer.new result }
 {
-    tell_done(read(alloc, job, room))
+    tell_done(read(alloc, job, buffer))
 }
 
 /// Frees the job, if there is one; the pointer is NULL then.

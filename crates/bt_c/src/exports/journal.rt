@@ -13,14 +13,14 @@ use crate::lending::lend;
 use crate::picker_handle::PickerHandle;
 use std::alloc::Global;
 
-/// Writes the piece into the room, if it is had.
-fn read(alloc: Global, picker: &mut PickerHandle, piece: u32, room: &mut [u8]) -> Result<(), Fault>
+/// Writes the piece into the buffer, if it is had.
+fn read(alloc: Global, picker: &mut PickerHandle, piece: u32, buffer: &mut [u8]) -> Result<(), Fault>
     ensures same { picker.new.held ≡ picker.old.held }
-    ensures shut { picker.old.held ≡ None → room.new ≡ room.old }
-    ensures reads { AtOpen (λ h o. Reads h piece room.old room.new o) picker.old.held result }
+    ensures shut { picker.old.held ≡ None → buffer.new ≡ buffer.old }
+    ensures reads { AtOpen (λ h o. Reads h piece buffer.old buffer.new o) picker.old.held result }
 {
     let held = picker.take(alloc).ok_or(Fault::Closed)?;
-    let done = held.read(piece, room);
+    let done = held.read(piece, buffer);
     *picker = holding(held);
     done
 }
@@ -42,19 +42,19 @@ pub extern "C" fn piecepick_settle_now(
     )
 }
 
-/// Writes the bytes of a piece that is had into a room of their number. Takes no memory.
+/// Writes the bytes of a piece that is had into a buffer of their number. Takes no memory.
 #[unsafe(no_mangle)]
 pub extern "C" fn piecepick_read(
     alloc: Global,
     picker: &mut PickerHandle,
     piece: u32,
-    room: &mut [u8],
+    buffer: &mut [u8],
 ) -> u32
     ensures same { picker.new.held ≡ picker.old.held }
-    ensures shut { picker.old.held ≡ None → room.new ≡ room.old }
-    ensures reads { TellsDone (λ h o. Reads h piece room.old room.new o) picker.old.held result }
+    ensures shut { picker.old.held ≡ None → buffer.new ≡ buffer.old }
+    ensures reads { TellsDone (λ h o. Reads h piece buffer.old buffer.new o) picker.old.held result }
 {
-    tell_done(read(alloc, picker, piece, room))
+    tell_done(read(alloc, picker, piece, buffer))
 }
 
 /// Judges the journal by the rules.

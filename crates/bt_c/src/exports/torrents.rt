@@ -23,32 +23,32 @@ fn ask(alloc: Global, picker: &mut PickerHandle, question: TorrentQuestion) -> R
     outcome
 }
 
-/// Writes the name into a room of its length.
-fn put_name(alloc: Global, picker: &mut PickerHandle, room: &mut [u8]) -> Result<(), Fault>
+/// Writes the name into a buffer of its length.
+fn put_name(alloc: Global, picker: &mut PickerHandle, buffer: &mut [u8]) -> Result<(), Fault>
     ensures same { picker.new.held ≡ picker.old.held }
-    ensures shut { picker.old.held ≡ None → room.new ≡ room.old }
-    ensures puts { AtOpen (λ h o. PutsBytes h.torrent.value.name room.old room.new o) picker.old.held result }
+    ensures shut { picker.old.held ≡ None → buffer.new ≡ buffer.old }
+    ensures puts { AtOpen (λ h o. PutsBytes h.torrent.value.name buffer.old buffer.new o) picker.old.held result }
 {
     let held = picker.take(alloc).ok_or(Fault::Closed)?;
-    let done = held.put_name(room);
+    let done = held.put_name(buffer);
     *picker = holding(held);
     done
 }
 
-/// Writes a name on the path of a file into a room of its length.
+/// Writes a name on the path of a file into a buffer of its length.
 fn put_part(
     alloc: Global,
     picker: &mut PickerHandle,
     file: u64,
     part: u64,
-    room: &mut [u8],
+    buffer: &mut [u8],
 ) -> Result<(), Fault>
     ensures same { picker.new.held ≡ picker.old.held }
-    ensures shut { picker.old.held ≡ None → room.new ≡ room.old }
-    ensures puts { AtOpen (λ h o. PutsIfAny (part_at h.files.items file part) room.old room.new o) picker.old.held result }
+    ensures shut { picker.old.held ≡ None → buffer.new ≡ buffer.old }
+    ensures puts { AtOpen (λ h o. PutsIfAny (part_at h.files.items file part) buffer.old buffer.new o) picker.old.held result }
 {
     let held = picker.take(alloc).ok_or(Fault::Closed)?;
-    let done = held.put_part(file, part, room);
+    let done = held.put_part(file, part, buffer);
     *picker = holding(held);
     done
 }
@@ -104,14 +104,14 @@ pub extern "C" fn piecepick_name_length(
     tell_large(ask(alloc, picker, TorrentQuestion::NameLength), number)
 }
 
-/// Writes the name into a room of its length. It is a suggestion, and perhaps no text.
+/// Writes the name into a buffer of its length. It is a suggestion, and perhaps no text.
 #[unsafe(no_mangle)]
-pub extern "C" fn piecepick_name(alloc: Global, picker: &mut PickerHandle, room: &mut [u8]) -> u32
+pub extern "C" fn piecepick_name(alloc: Global, picker: &mut PickerHandle, buffer: &mut [u8]) -> u32
     ensures same { picker.new.held ≡ picker.old.held }
-    ensures shut { picker.old.held ≡ None → room.new ≡ room.old }
-    ensures puts { TellsDone (λ h o. PutsBytes h.torrent.value.name room.old room.new o) picker.old.held result }
+    ensures shut { picker.old.held ≡ None → buffer.new ≡ buffer.old }
+    ensures puts { TellsDone (λ h o. PutsBytes h.torrent.value.name buffer.old buffer.new o) picker.old.held result }
 {
-    tell_done(put_name(alloc, picker, room))
+    tell_done(put_name(alloc, picker, buffer))
 }
 
 /// Writes the SHA-1 of the info dictionary, by which peers know the torrent: zeros of a torrent of parts.
@@ -201,18 +201,18 @@ pub extern "C" fn piecepick_file_part_length(
     )
 }
 
-/// Writes a name on the path of a file into a room of its length. It may be any bytes.
+/// Writes a name on the path of a file into a buffer of its length. It may be any bytes.
 #[unsafe(no_mangle)]
 pub extern "C" fn piecepick_file_part(
     alloc: Global,
     picker: &mut PickerHandle,
     file: u64,
     part: u64,
-    room: &mut [u8],
+    buffer: &mut [u8],
 ) -> u32
     ensures same { picker.new.held ≡ picker.old.held }
-    ensures shut { picker.old.held ≡ None → room.new ≡ room.old }
-    ensures puts { TellsDone (λ h o. PutsIfAny (part_at h.files.items file part) room.old room.new o) picker.old.held result }
+    ensures shut { picker.old.held ≡ None → buffer.new ≡ buffer.old }
+    ensures puts { TellsDone (λ h o. PutsIfAny (part_at h.files.items file part) buffer.old buffer.new o) picker.old.held result }
 {
-    tell_done(put_part(alloc, picker, file, part, room))
+    tell_done(put_part(alloc, picker, file, part, buffer))
 }
