@@ -55,6 +55,7 @@ DESCRIBED = {
 
 # Files that are none, by the number of the fault.
 FAULTY = {
+    "empty.torrent": b"",
     "fault-2.torrent": b"i0e",
     "fault-3.torrent": b"de",
     "fault-4.torrent": spelled(b"4:infod6:length1:74:name1:s12:piece lengthi3e"),

@@ -5,7 +5,8 @@
 
 The program is the one that ./piecepick runs, or FILE. The lines are those of data/commands, in a copy of that folder. `rt ci` runs them in
 one process, and here each has its own. What is stored there was derived by hand or by other programs (crates/bt_cli_tests/README.md). Lines
-that are no command of the program (`decode`) are left out. The status is 1 where something differs, and each line that does is printed.
+that are no command of the program (`decode`) are left out. Then it plays scripts that are at fault, and compares what is said of them with the
+table below. The status is 1 where something differs, and each line that does is printed.
 """
 
 from __future__ import annotations
@@ -25,6 +26,21 @@ ROOT = Path(__file__).resolve().parent.parent
 CRATE = ROOT / "crates/bt_cli_tests"
 LEFT_OUT = "decode"
 LONGEST = 60.0  # seconds of one command
+
+# Scripts at fault: the number of the line, and what is said of it.
+TORRENT = "torrent 16384 16384 2 " + "0" * 40 + "\n"
+SCRIPTS = (
+    ("", 1, "the script is empty"),
+    ("\n\n", 1, "the script is empty"),
+    ("torrent 16384 16384 2 00ff\n", 1, "`torrent 16384 16384 2 00ff`: hash 1 isn't 40 hexadecimal digits"),
+    (f"torrent 1 2 2 {'0' * 40} {'0' * 39}g\n", 1, f"`torrent 1 2 2 {'0' * 40} 00000..`: hash 2 isn't 40 hexadecimal digits"),
+    ("torrent 16384 16384 2\n", 1, "`torrent 16384 16384 2`: not `torrent PIECE_LEN TOTAL WORKERS HASH..` of a torrent that can be"),
+    (TORRENT + "0 bitz 80\n", 2, "`0 bitz 80`: no such call: bitz"),
+    (TORRENT + "0 join 1\n", 2, "`0 join 1`: not a call, or numbers out of range"),
+    (TORRENT + "0\n", 2, "`0`: not a call, or numbers out of range"),
+    (TORRENT + "\n2 join\n", 3, "`2 join`: there is no such worker"),
+    (TORRENT + "0 join\n0 bits 8000\n", 3, "`0 bits 8000`: the bitfield isn't one of the torrent"),
+)
 
 
 def stored() -> Iterator[tuple[str, str]]:
@@ -81,6 +97,18 @@ def answer(program: Path, line: str, folder: Path, given: IO[bytes]) -> list[str
     return ran(program, words, manner, folder, given)
 
 
+def at_fault(program: Path) -> int:
+    """How many scripts at fault are answered otherwise than by the table."""
+    different = 0
+    for script, line, said in SCRIPTS:
+        done = subprocess.run([program, "script"], input=script.encode(), stdout=subprocess.PIPE, stderr=subprocess.PIPE, timeout=LONGEST)
+        wanted = f"line {line}\npiecepick: standard input: {said}\n"
+        if done.returncode != 2 or done.stderr.decode() != wanted:
+            different += 1
+            print(f"$ piecepick script <<< {script!r}\n  wanted:\n{wanted}  found:\n{done.stderr.decode()}")
+    return different
+
+
 def main() -> int:
     words = argparse.ArgumentParser(description="Runs the stored command lines with the program.")
     words.add_argument("--program", type=Path)
@@ -104,7 +132,9 @@ def main() -> int:
             else:
                 different += 1
                 print(f"$ {line}\n  stored:\n{printed}\n  found:\n" + "\n".join(found_lines))
-    print(f"{same} command lines print what is stored, {different} don't, {left_out} are left out")
+    wrong = at_fault(program.resolve())
+    print(f"{same} command lines print what is stored, {different} don't, {left_out} are left out; {len(SCRIPTS)} scripts at fault, {wrong} said wrong")
+    different += wrong
     return 1 if different or not same else 0
 
 

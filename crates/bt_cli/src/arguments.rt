@@ -136,7 +136,14 @@ const JOURNAL: Argument = Argument {
     hidden: false,
 };
 
-const OF_INFO: &[Argument] = &[META];
+const FILES: Argument = Argument {
+    name: "files",
+    help: "Prints its files in place of that, a line each",
+    kind: Kind::Flag,
+    hidden: false,
+};
+
+const OF_INFO: &[Argument] = &[FILES, META];
 
 const OF_SERIAL: &[Argument] = &[
     SEED,

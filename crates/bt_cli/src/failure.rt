@@ -116,12 +116,20 @@ impl<'a> Failure<'a> {
     fn words(self, alloc: Global) -> Option<String> {
         match self {
             Failure::Of { name, fault } => words_of(alloc, name, fault),
-            Failure::File { name, error } => {
-                format!(in alloc; "piecepick: {name}: {error}\n").ok()
-            }
+            Failure::File { name, error } => words_of_file(alloc, name, error),
             Failure::Command(_) | Failure::Closed => None,
         }
     }
+}
+
+/// Why reading or writing the file of this name failed: the system's reason, without the number that std puts behind it.
+fn words_of_file(alloc: Global, name: &str, error: io::Error) -> Option<String> {
+    let text = error.to_string(alloc).ok()?;
+    let reason = match text.split_once(" (os error ") {
+        Some((reason, _)) => reason,
+        None => &text,
+    };
+    format!(in alloc; "piecepick: {name}: {reason}\n").ok()
 }
 
 /// What is wrong with the file or the option of this name.

@@ -67,6 +67,8 @@ Prints, a line each:
   last N            the bytes of the last piece
   blocks N          in all pieces, of 16384 bytes but for the last of a piece
   files N
+With --files, a line for each file in the order of the content:
+  file N NAME..     its bytes, and the names on its path, spelled as above; the first one is the torrent's
 
 Status: 0 done; 3 `metainfo fault N`, the file isn't a metainfo file; 4 `file fault`, META can't be read, or
 standard output fails; 5 `memory`, there isn't enough.

@@ -4,12 +4,14 @@ ghost use Rattle.std.specs.Prelude.{◌≡◌, ◌≤◌, ◌⊎◌, ◌+◌, �
 ghost use Rattle.std.specs.Prelude.{OnErr, OnOk};
 ghost use Rattle.std.specs.Io.KnownBytes.{Appends, Keeps};
 ghost use Rattle.bt_meta.specs.Layout.{Metainfo};
+ghost use Rattle.bt_meta.specs.Files.{files_of_file};
 ghost use Rattle.bt_meta.specs.Reading.{torrent_of_file};
 ghost use Rattle.bt_picker.specs.Positions.{DeskState};
 ghost use Rattle.bt_peer.specs.Serial.{stream_record};
 ghost use Rattle.bt_shared.specs.declared.gather.Book.{Book};
 ghost use Rattle.bt_text.specs.declared.fault.Fault.{Fault};
 ghost use Rattle.bt_text.specs.Info.{IsInfoFault, PrintsInfo};
+ghost use Rattle.bt_text.specs.Listing.{IsListingFault, PrintsFiles};
 ghost use Rattle.bt_text.specs.Scripts.{Explains, IsScript, Prints};
 ghost use Rattle.bt_cli.specs.Runs.{IsStartFault, Ran, run_status};
 ghost use Rattle.bt_cli.specs.ThreadRuns.{IsThreadsFault, RanThreads};
@@ -28,7 +30,7 @@ use bt_meta::{DeviceFault, Sink, Source};
 use bt_peer::{End, MOST_STREAMS, SessionFault, Stream};
 use bt_picker::Desk;
 use bt_session::MOST_CHECKERS;
-use bt_text::{Fault, MOST_DEPTH, print, print_info, print_replies};
+use bt_text::{Fault, MOST_DEPTH, print, print_files, print_info, print_replies};
 use std::alloc::Global;
 use std::io::Write;
 use std::sync::Wait;
@@ -90,6 +92,26 @@ pub fn info_of<'w, O: Write + Drop>(
         ⊎ (⟦<Device<O> as Sink>⟧.failed out.new ≡ true)) }
 {
     match print_info(alloc, meta, out) {
+        Ok(()) => end(Ok(0), name, out),
+        Err(fault) => end(Err(fault), name, out),
+    }
+}
+
+/// The command `info --files`, of META's bytes.
+pub fn files_of<'w, O: Write + Drop>(
+    alloc: Global,
+    meta: &[u8],
+    name: &'w str,
+    out: &mut Device<O>,
+) -> Result<Done, Failure<'w>>
+    ensures ok { IfOk result (λ done. done.status ≡ 0) }
+    ensures printed { OnOk result (Flushed (PrintsFiles (files_of_file meta.now))
+        (⟦<Device<O> as Sink>⟧.written out.old) (⟦<Device<O> as Sink>⟧.written out.new)) }
+    ensures written { OnOk result (⟦<Device<O> as Sink>⟧.failed out.new ≡ false) }
+    ensures err { IfErr result (λ failure. IsListingFault (files_of_file meta.now) (fault_of failure)
+        ⊎ (⟦<Device<O> as Sink>⟧.failed out.new ≡ true)) }
+{
+    match print_files(alloc, meta, out) {
         Ok(()) => end(Ok(0), name, out),
         Err(fault) => end(Err(fault), name, out),
     }

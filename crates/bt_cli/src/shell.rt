@@ -10,7 +10,7 @@ use crate::failure::{Failure, conclude};
 use crate::file::OutFile;
 use crate::found::{asked, misplaced_in_run, misplaced_in_serial};
 use crate::options::Options;
-use crate::road::{Done, info_of, script_of, serial_of, text_of, threads_of};
+use crate::road::{Done, files_of, info_of, script_of, serial_of, text_of, threads_of};
 use crate::same::is_input;
 use crate::streams::recorded;
 use crate::target::Target;
@@ -98,7 +98,7 @@ where
     R::File: Send,
 {
     match matches.subcommand() {
-        Some(("info", arguments)) => info(rt, arguments, out, err),
+        Some(("info", arguments)) => info(rt, arguments, out, err, more),
         Some(("run", arguments)) => run(rt, arguments, out, err, more),
         Some(("script", _)) => script(rt, out, more),
         Some(("serial", arguments)) => serial(rt, arguments, out, err, more),
@@ -130,10 +130,26 @@ fn info<'w, R: Runtime + AllocGlobal, O: Write + Drop, E: Sink>(
     arguments: &ArgMatches<'w>,
     out: &mut Device<O>,
     err: &mut E,
+    more: &mut Option<String>,
 ) -> Result<Done, Failure<'w>> {
-    match arguments.get_str("META") {
-        Some(path) => info_of(rt.alloc(), &read(rt, path)?, path, out),
-        None => Ok(refuse(Wrong::Lacking, err)),
+    let Some(path) = arguments.get_str("META") else {
+        return Ok(refuse(Wrong::Lacking, err));
+    };
+    let meta = read(rt, path)?;
+    *more = words_of_empty(rt.alloc(), &meta, path);
+    if arguments.get_flag("files") {
+        files_of(rt.alloc(), &meta, path, out)
+    } else {
+        info_of(rt.alloc(), &meta, path, out)
+    }
+}
+
+/// That a metainfo file is empty, if it is: what is wrong with its encoding doesn't say so.
+fn words_of_empty(alloc: Global, meta: &[u8], name: &str) -> Option<String> {
+    if meta.is_empty() {
+        format!(in alloc; "piecepick: {name}: the file is empty\n").ok()
+    } else {
+        None
     }
 }
 
@@ -252,7 +268,10 @@ fn run_in_turns<'w, R: Runtime + AllocGlobal, O: Write + Drop>(
             *more = ends_in_words(rt.alloc(), &streams, &came.ends);
             came.done
         }
-        Err(fault) => Err(Failure::of_command(fault, asked.meta)),
+        Err(fault) => {
+            *more = words_of_empty(rt.alloc(), &meta, asked.meta);
+            Err(Failure::of_command(fault, asked.meta))
+        }
     }
 }
 
@@ -303,6 +322,9 @@ where
             *more = ends_in_words(rt.alloc(), &came.streams, &came.ends);
             came.done
         }
-        Err(fault) => Err(Failure::of_command(fault, asked.meta)),
+        Err(fault) => {
+            *more = words_of_empty(rt.alloc(), &meta, asked.meta);
+            Err(Failure::of_command(fault, asked.meta))
+        }
     }
 }

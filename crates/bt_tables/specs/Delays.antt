@@ -15,9 +15,8 @@ flagged [] flags = []
 flagged (b ∷ bs) [] = []
 flagged (b ∷ bs) (f ∷ flags) = if f then b ∷ flagged bs flags else flagged bs flags
 
--- there is room for so many blocks and so many flags, each block has a flag, no two begin at one place, and so many flags are set
-pub record IsLine (room block_room flag_room late : ℕ) (blocks : List Block) (flags : List Bool) : Type 0 where
-  pub holds_blocks : room ≤ block_room
+-- there is room for as many flags as blocks, each block has a flag, no two begin at one place, and so many flags are set
+pub record IsLine (room flag_room late : ℕ) (blocks : List Block) (flags : List Bool) : Type 0 where
   pub holds_flags : room ≤ flag_room
   pub each : length flags ≡ length blocks
   pub apart : AreApart blocks

@@ -1,5 +1,6 @@
 pub mod Tables
 pub mod Delays
+pub mod Queues
 pub mod Standings
 pub mod Rows
 pub mod Floors

@@ -15,6 +15,7 @@ mod peer;
 mod peers;
 mod piece;
 mod pieces;
+mod queue;
 mod rising;
 mod rows;
 mod shelf;

@@ -8,6 +8,7 @@ ghost use Rattle.bt_history.specs.History.{same_begin};
 ghost use Rattle.bt_history.specs.Peers.{has_place};
 ghost use Rattle.bt_tables.specs.Tables.{one_if};
 
+use crate::queue::Queue;
 use bt_meta::Block;
 use std::alloc::{AllocError, Global};
 use std::marker::Model;
@@ -15,8 +16,7 @@ use std::marker::Model;
 /// The blocks that are asked of a peer, the oldest request first, and a flag for each with which the peer is late. Room for all is taken
 /// with the line, 13 bytes for each block, so that no call takes memory.
 pub struct Line {
-    room: u32,
-    blocks: Vec<Block>,
+    blocks: Queue,
     flags: Vec<bool>,
     late: usize,
 }
@@ -25,7 +25,6 @@ pub struct Line {
 impl Drop for Line {
     fn drop(self) {
         let Line {
-            room: _,
             blocks: _blocks,
             flags: _flags,
             late: _,
@@ -39,9 +38,9 @@ impl Model for Line {
 
     ghost Value = { LineState };
 
-    ghost view = { λ l. record { room = l.room; asked = l.blocks.items; overdue = flagged l.blocks.items l.flags.items } };
+    ghost view = { λ l. record { room = l.blocks.room; asked = l.blocks.items; overdue = flagged l.blocks.items l.flags.items } };
 
-    ghost invariant = { λ l. IsLine l.room (vec_capacity l.blocks) (vec_capacity l.flags) l.late l.blocks.items l.flags.items };
+    ghost invariant = { λ l. IsLine l.blocks.room (vec_capacity l.flags) l.late l.blocks.items l.flags.items };
 }
 
 impl Line {
@@ -50,8 +49,7 @@ impl Line {
         ensures { IfOk result (λ line. line ≡ record { room = room; asked = []; overdue = [] }) }
     {
         Ok(Line {
-            room,
-            blocks: Vec::with_capacity(alloc, room as usize)?,
+            blocks: Queue::new(alloc, room)?,
             flags: Vec::with_capacity(alloc, room as usize)?,
             late: 0,
         })
@@ -81,7 +79,7 @@ impl Line {
     fn finds_late(&self, piece: u32, begin: u32) -> bool
         ensures { result ≡ list_any (λ b. (piece == b.piece) && (begin == b.begin)) self.now.overdue }
     {
-        match place_in(&self.blocks, piece, begin) {
+        match place_in(self.blocks.as_slice(), piece, begin) {
             Some(index) => self.flags[index],
             None => false,
         }
@@ -92,7 +90,7 @@ impl Line {
         ensures { result ≡ (list_any (λ b. (piece == b.piece) && (begin == b.begin)) self.now.asked
             && not (list_any (λ b. (piece == b.piece) && (begin == b.begin)) self.now.overdue)) }
     {
-        match place_in(&self.blocks, piece, begin) {
+        match place_in(self.blocks.as_slice(), piece, begin) {
             Some(index) => !self.flags[index],
             None => false,
         }
@@ -112,7 +110,7 @@ impl Line {
         ensures { (d : Block) → result ≡ ((piece == (slice_index_or self.now.asked index d).piece)
             && not (has_place (slice_index_or self.now.asked index d) self.now.overdue)) }
     {
-        self.blocks[index].piece == piece && !self.flags[index]
+        self.blocks.at(index).piece == piece && !self.flags[index]
     }
 
     /// The block is asked of the peer now.
@@ -121,7 +119,7 @@ impl Line {
         requires new { has_place block self.old.asked ≡ false }
         ensures { self.new ≡ record self.old { asked = self.old.asked ++ block ∷ [] } }
     {
-        self.blocks.push_reserved(block);
+        self.blocks.push(block);
         self.flags.push_reserved(false);
     }
 
@@ -129,7 +127,7 @@ impl Line {
     pub fn has(&self, piece: u32, begin: u32) -> bool
         ensures { result ≡ list_any (λ b. (piece == b.piece) && (begin == b.begin)) self.now.asked }
     {
-        place_in(&self.blocks, piece, begin).is_some()
+        place_in(self.blocks.as_slice(), piece, begin).is_some()
     }
 
     /// Takes the block that begins there out of the line, if there is one.
@@ -141,7 +139,7 @@ impl Line {
         ensures some { IfSome result (λ b. filter (λ b. (piece == b.piece) && (begin == b.begin)) self.old.asked ≡ b ∷ []) }
         ensures none { IfNone result (filter (λ b. (piece == b.piece) && (begin == b.begin)) self.old.asked ≡ []) }
     {
-        match place_in(&self.blocks, piece, begin) {
+        match place_in(self.blocks.as_slice(), piece, begin) {
             Some(index) => Some(self.remove(index)), // most often the first, as blocks come in the order of their requests
             None => None,
         }
@@ -184,7 +182,7 @@ impl Line {
             → list_any (λ b. piece == b.piece) (take result self.new.asked) ≡ false }
         ensures smaller { length self.new.asked - result < length self.old.asked - index }
     {
-        if self.blocks[index].piece == piece {
+        if self.blocks.at(index).piece == piece {
             self.remove(index);
             index
         } else {
@@ -198,7 +196,7 @@ impl Line {
           overdue = filter (λ b. ((piece == b.piece) && (begin == b.begin)) || has_place b self.old.overdue) self.old.asked;
         } }
     {
-        if let Some(index) = place_in(&self.blocks, piece, begin) {
+        if let Some(index) = place_in(self.blocks.as_slice(), piece, begin) {
             self.set_late(index);
         }
     }

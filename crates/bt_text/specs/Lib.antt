@@ -1,6 +1,7 @@
 pub mod Statuses
 pub mod Texts
 pub mod Info
+pub mod Listing
 pub mod Journals
 pub mod Fields
 pub mod Lines

@@ -10,7 +10,7 @@ use Rattle.bt_tables.proofs.line.Line.delay.Goals as goal
 pub returns-in-Some : goal.returns-in-Some
 returns-in-Some c =
     let l = c.args.self.now in
-    let some = rw c.deref.ensures.value at c.in-Some.ensures.some in
+    let some = rw c.as_slice.ensures at c.in-Some.ensures.some in
     let d : Block = record { piece = 0; begin = 0; len = 0 } in
     let x = get_or l.asked c.in-Some.index d in
     let here : begins c.args.piece c.args.begin x ≡ true =
@@ -25,7 +25,7 @@ returns-in-Some c =
 pub returns-in_default : goal.returns-in_default
 returns-in_default c =
     let o = c.self.inside in
-    let none = rw c.deref.ensures.value at c.in_default.ensures.none in
+    let none = rw c.as_slice.ensures at c.in_default.ensures.none in
     let d : Block = record { piece = 0; begin = 0; len = 0 } in
     let stays = flagged_stay c.args.piece c.args.begin o.blocks.items o.flags.items d c.self.invariant.apart c.self.invariant.each none in
-    rw (← c.self.view_is) (λ i. record { room = o.room; asked = o.blocks.items; overdue = sym stays i })
+    rw (← c.self.view_is) (λ i. record { room = o.blocks.room; asked = o.blocks.items; overdue = sym stays i })

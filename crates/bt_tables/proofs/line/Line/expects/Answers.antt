@@ -9,8 +9,8 @@ pub returns-in-Some : goal.returns-in-Some
 returns-in-Some c =
     let o = c.self.inside in
     let are = c.self.invariant in
-    let said = rw c.deref.ensures.value at c.place_in.ensures in
-    let some = rw c.deref.ensures.value at c.in-Some.ensures.some in
+    let said = rw c.as_slice.ensures at c.place_in.ensures in
+    let some = rw c.as_slice.ensures at c.in-Some.ensures.some in
     let d : Block = record { piece = 0; begin = 0; len = 0 } in
     let there = place_there c.args.piece c.args.begin o.blocks.items c.place_in.result (record { some = said.some; none = said.none })
     ∙ ap is_some c.in-Some.is in

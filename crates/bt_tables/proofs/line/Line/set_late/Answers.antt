@@ -10,7 +10,7 @@ overflow_add-self c =
     let clear = sym c.index.ensures ∙ c.if-not-index.true in
     let more = count_set o.blocks.items o.flags.items c.args.index c.index.result.now c.self.invariant.each lt clear in
     let most = count_most o.blocks.items (set o.flags.items c.args.index true) in
-    omega (arith, more, most, o.blocks.ok.0, c.self.invariant.counted)
+    omega (arith, more, most, o.flags.ok.0, c.self.invariant.each, c.self.invariant.counted)
 
 pub invariant_of-self : goal.invariant_of-self
 invariant_of-self c =
@@ -19,7 +19,6 @@ invariant_of-self c =
     let clear = sym c.index.ensures ∙ c.if-not-index.true in
     let more = count_set o.blocks.items o.flags.items c.args.index c.index.result.now c.self.invariant.each lt clear in
     record {
-      holds_blocks = c.self.invariant.holds_blocks;
       holds_flags = c.self.invariant.holds_flags;
       each = length-set o.flags.items c.args.index true ∙ c.self.invariant.each;
       apart = c.self.invariant.apart;
@@ -31,7 +30,7 @@ returns-then-not-index c d =
     let o = c.self.inside in
     let lt = rw (← c.self.view_is) at c.requires in
     let late = flagged_set o.blocks.items o.flags.items c.args.index d c.self.invariant.apart c.self.invariant.each lt in
-    rw (← c.self.view_is) (λ i. record { room = o.room; asked = o.blocks.items; overdue = sym late i })
+    rw (← c.self.view_is) (λ i. record { room = o.blocks.room; asked = o.blocks.items; overdue = sym late i })
 
 pub returns-else-not-index : goal.returns-else-not-index
 returns-else-not-index c d =
@@ -39,4 +38,4 @@ returns-else-not-index c d =
     let lt = rw (← c.self.view_is) at c.requires in
     let was = sym (c.index.ensures ∙ get_or_default o.flags.items c.args.index _ _ (omega (arith, lt, c.self.invariant.each))) ∙ c.if-not-index.false in
     let late = flagged_again o.blocks.items o.flags.items c.args.index d c.self.invariant.apart c.self.invariant.each lt was in
-    rw (← c.self.view_is) (λ i. record { room = o.room; asked = o.blocks.items; overdue = sym late i })
+    rw (← c.self.view_is) (λ i. record { room = o.blocks.room; asked = o.blocks.items; overdue = sym late i })
