@@ -1,7 +1,7 @@
-/* A client's loop round the picker, without a network: two peers in memory that have all of the content answer what they are asked.
+/* A client's loop round the picker, without a network: two peers in memory that have all of the content answer our requests.
 
    usage: example FILE.torrent CONTENT
-   It reads the torrent, downloads the content from the peers, compares it, and prints how many pieces are had. */
+   It reads the torrent, downloads the content from the peers, compares it, and prints how many pieces are complete. */
 #include "piecepick.h"
 #include <stdio.h>
 #include <stdlib.h>
@@ -9,9 +9,9 @@
 
 enum { PEERS = 2, DEPTH = 16 };
 
-/* What a peer was asked and hasn't sent, the oldest first. A client writes messages to a socket, and the peer does the rest. */
+/* What was requested from a peer and hasn't come, the oldest first. A client writes messages to a socket, and the peer does the rest. */
 struct peer {
-    piecepick_answer asked[DEPTH];
+    piecepick_answer requests[DEPTH];
     size_t count;
 };
 
@@ -44,10 +44,10 @@ static uint8_t *read_file(const char *path, size_t *length)
 static void drop(struct peer *peer, uint32_t piece, uint32_t begin)
 {
     size_t at = 0;
-    while (at < peer->count && (peer->asked[at].piece != piece || peer->asked[at].begin != begin)) at++;
+    while (at < peer->count && (peer->requests[at].piece != piece || peer->requests[at].begin != begin)) at++;
     if (at == peer->count) return;
     peer->count--;
-    memmove(&peer->asked[at], &peer->asked[at + 1], (peer->count - at) * sizeof *peer->asked);
+    memmove(&peer->requests[at], &peer->requests[at + 1], (peer->count - at) * sizeof *peer->requests);
 }
 
 /* The handshakes were exchanged; the peer shows each piece, and unchokes us. */
@@ -63,14 +63,14 @@ static void come(piecepick_picker *picker, uint32_t worker, uint32_t pieces)
     free(payload);
 }
 
-/* Sends the peer what the picker wants sent, which is no more than it may be asked at a time. */
+/* Sends the peer what the picker wants sent, which is no more requests than it may have at a time. */
 static void send_all(piecepick_picker *picker, uint32_t worker, struct peer *peer)
 {
     piecepick_answer answer;
     for (;;) {
         check("next", piecepick_next(picker, worker, (uint64_t)rand(), &answer));
         if (answer.kind == PIECEPICK_K_CANCEL) drop(peer, answer.piece, answer.begin);
-        else if (answer.kind == PIECEPICK_K_REQUEST) peer->asked[peer->count++] = answer;
+        else if (answer.kind == PIECEPICK_K_REQUEST) peer->requests[peer->count++] = answer;
         else return;
     }
 }
@@ -120,7 +120,7 @@ int main(int argc, char **argv)
         struct peer *peer = &peers[worker];
         send_all(picker, worker, peer);
         if (peer->count > 0) { /* its oldest block comes */
-            piecepick_answer block = peer->asked[0];
+            piecepick_answer block = peer->requests[0];
             size_t place = (size_t)block.piece * piece_length;
             drop(peer, block.piece, block.begin);
             const uint8_t *bytes = content + place + block.begin;
@@ -134,7 +134,7 @@ int main(int argc, char **argv)
     for (uint32_t worker = 0; worker < PEERS; worker++) check("leave", piecepick_leave(picker, worker, &answer));
     piecepick_close(&picker);
     int same = memcmp(copy, content, content_len) == 0;
-    printf("%u pieces had, the content is %s\n", (unsigned)pieces, same ? "the same" : "another");
+    printf("%u pieces complete, the content is %s\n", (unsigned)pieces, same ? "the same" : "another");
     free(copy);
     free(content);
     return same ? 0 : 1;

@@ -13,7 +13,7 @@
 
 using namespace piecepick;
 
-/* What a peer was asked and hasn't sent, the oldest first. A client writes messages to a socket, and the peer does the rest. */
+/* What was requested from a peer and hasn't come, the oldest first. A client writes messages to a socket, and the peer does the rest. */
 using Line = std::deque<Answer>;
 
 /* Milliseconds of a clock that doesn't go back. */
@@ -26,8 +26,8 @@ static std::uint64_t now()
 /* The peer's depth follows the rate. A client does this once a second, or at each block. */
 static void follow(Picker &picker, std::uint32_t worker, DepthByRate &by_rate)
 {
-    const std::uint32_t told = by_rate.depth();
-    if (by_rate.follow(now()) != told) picker.depth(worker, by_rate.depth());
+    const std::uint32_t before = by_rate.depth();
+    if (by_rate.follow(now()) != before) picker.depth(worker, by_rate.depth());
 }
 
 static std::vector<std::uint8_t> read_file(const char *path)
@@ -99,7 +99,7 @@ static bool download(const char *torrent, const char *path)
         send_all(picker, worker, line);
     }
     for (std::uint32_t worker = 0; worker < options.workers; worker++) picker.leave(worker);
-    std::printf("%s: %u pieces had, the content is %s\n", picker.name().c_str(), picker.pieces(), copy == content ? "the same" : "another");
+    std::printf("%s: %u pieces complete, the content is %s\n", picker.name().c_str(), picker.pieces(), copy == content ? "the same" : "another");
     return copy == content;
 }
 

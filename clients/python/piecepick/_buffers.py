@@ -62,7 +62,7 @@ def lend(data: Any) -> tuple[Any, int]:
     return lent, lent.length
 
 
-def lend_writable(room: Any) -> tuple[Any, int]:
+def lend_writable(buffer: Any) -> tuple[Any, int]:
     """The same for an object that is to be written. Raises BufferError where it can't be."""
-    lent = _Lent(room, _WRITABLE)
+    lent = _Lent(buffer, _WRITABLE)
     return lent, lent.length

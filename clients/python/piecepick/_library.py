@@ -27,7 +27,7 @@ def _path() -> Path:
 
 
 def _load() -> ctypes.CDLL:
-    """Compares the interface's number before any type is told: with another number no other call may be made."""
+    """Compares the interface's number before any type is set: with another number no other call may be made."""
     path = _path()
     try:
         library = ctypes.CDLL(str(path))

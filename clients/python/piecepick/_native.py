@@ -111,7 +111,7 @@ class PickRule(IntEnum):
 
 
 class Keeps(IntEnum):
-    """What a picker keeps of what it is told."""
+    """What a picker keeps of what is reported."""
 
     NOTHING = 0
     BEGUN = 1

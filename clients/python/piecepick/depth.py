@@ -19,7 +19,7 @@ def _fits(number: int, bits: int) -> int:
 
 
 class DepthByRate:
-    """The depth of one peer: tell `Picker.depth` what `follow` answers.
+    """The depth of one peer: pass to `Picker.depth` what `follow` answers.
 
     The depth is as many blocks of 16 KiB as come in a second, and 4 more. The rate is that of the last two seconds, or of the last eight if that is
     greater. The depth is at most `deepest`, and in endgame at most 6. It rises at once. It falls by a quarter at most, and once a second. After
@@ -58,11 +58,11 @@ class DepthByRate:
         self._is_begun, self._is_late = True, False
 
     def timed_out(self) -> None:
-        """A request took too long, and was told late."""
+        """A request took too long, and was reported as late."""
         self._is_begun = self._is_late = True
 
     def set_in_endgame(self, is_in_endgame: bool) -> None:
-        """Tell at each request whether another peer that isn't late is asked for its block too. The depth is at most 6 at once where that is so."""
+        """Report at each request whether its block is requested from another peer too, which isn't late. The depth is at most 6 at once then."""
         self._is_in_endgame = is_in_endgame
         if is_in_endgame:
             self._depth = min(self._depth, _ENDGAME_DEPTH)
@@ -72,7 +72,7 @@ class DepthByRate:
         self._turn(now)
         if not self._is_begun:
             return self._depth
-        # The last two seconds tell of a rate that rises, and all of them of one that comes in bursts.
+        # The last two seconds show a rate that rises, and all of them one that comes in bursts.
         rate = 0 if self._is_late else max(self._blocks(_LAST_SECONDS), self._blocks(_SECONDS))
         most = min(_ENDGAME_DEPTH, self._deepest) if self._is_in_endgame else self._deepest
         wanted = min(_LEAST_DEPTH + rate, most)
@@ -98,5 +98,5 @@ class DepthByRate:
         passed = min(1000 * (seconds - 1) + self._now % 1000, self._now - self._begin)
         second = self._now // 1000
         count = sum(self._counts[(second - back) % _SECONDS] for back in range(seconds))
-        # Of less than a second nothing can be told.
+        # Less than a second says nothing.
         return count * 1000 // (max(passed, 1000) * _BLOCK)

@@ -53,7 +53,7 @@ class MemoryFault(PiecepickError, MemoryError):
     """There was no memory. The same call may be made again."""
 
 
-# These tell of what was done before, and not of what was passed.
+# These are about what was done before, and not about what was passed.
 _OF_STATE = frozenset(
     {
         Status.CLOSED,
@@ -105,16 +105,16 @@ _NOTED = Answer(Kind.NOTED), Answer(Kind.NOTED, interesting=True)
 _REFUSED = tuple(Answer(Kind.REFUSED, reason=reason) for reason in Reason)
 
 
-def _answer(told: _native.Answer) -> Answer:
+def _answer(given: _native.Answer) -> Answer:
     """The answer that C has written."""
-    kind = told.kind
+    kind = given.kind
     if plain := _PLAIN[kind]:
         return plain
     if kind == Kind.NOTED:
-        return _NOTED[told.interesting]
+        return _NOTED[given.interesting]
     if kind == Kind.REFUSED:
-        return _REFUSED[told.reason]
-    return Answer(_KINDS[kind], told.piece, told.begin, told.length)
+        return _REFUSED[given.reason]
+    return Answer(_KINDS[kind], given.piece, given.begin, given.length)
 
 
 def _u32(number: int) -> int:
@@ -227,7 +227,7 @@ class Picker:
     ) -> None:
         """A picker for the torrent of a metainfo file. The choices are those of the header's piecepick_options.
 
-        In endgame a block is asked again only of a peer that is asked for fewer than `rush`: 0 is no endgame, and 4,096 no bound. With
+        In endgame a block is requested again only from a peer with fewer requests than `rush`: 0 is no endgame, and 4,096 no bound. With
         `shown` endgame waits only for pieces that a joined peer shows, and without it for all wanted ones.
         """
         options = _options(keeps, workers, depth, deepest, random, askers, open, rush, shown)
@@ -336,7 +336,7 @@ class Picker:
         return self._told(LIBRARY.piecepick_leave, _u32(worker))
 
     def choke(self, worker: int) -> Answer:
-        """A `choke` message came, or the peer is silent: what was asked of it is free for others."""
+        """A `choke` message came, or the peer is silent: what was requested from it is free for others."""
         return self._told(LIBRARY.piecepick_choke, _u32(worker))
 
     def unchoke(self, worker: int) -> Answer:
@@ -358,7 +358,7 @@ class Picker:
         return self._told(LIBRARY.piecepick_haves, _u32(worker), data, length)
 
     def lack(self, worker: int, piece: int) -> Answer:
-        """The peer has this piece no more (`lt_donthave`, BEP 54): blocks of it that are asked of the peer are so no more, with no cancel."""
+        """The peer has this piece no more (`lt_donthave`, BEP 54): blocks of it that are requested from the peer are released, with no cancel."""
         return self._told(LIBRARY.piecepick_lack, _u32(worker), _u32(piece))
 
     def arrived(self, worker: int, piece: int, begin: int, block: BytesLike) -> Answer:
@@ -381,19 +381,19 @@ class Picker:
             return _answer(self._answer)
 
     def release(self, worker: int, piece: int, begin: int) -> Answer:
-        """The block that begins there, in bytes, is asked of the peer no more; REFUSED by NOT_REQUESTED where it wasn't."""
+        """The block that begins there, in bytes, is requested from the peer no more; REFUSED by NOT_REQUESTED where it wasn't."""
         return self._told(LIBRARY.piecepick_release, _u32(worker), _u32(piece), _u32(begin))
 
     def late(self, worker: int, piece: int, begin: int) -> Answer:
         """A request takes too long: late. It was rejected, or never sent: `release`. REFUSED by NOT_REQUESTED as there.
 
-        The block that begins there, in bytes, stays asked of the peer. One of the other peers may be asked for it at once, before endgame. When
-        another one brings it, a cancel is due at this peer. While the request lasts, this peer isn't asked for the block again.
+        The block that begins there, in bytes, stays requested from the peer. It may be requested from another one at once, before endgame. When
+        another one brings it, a cancel is due at this peer. While the request lasts, the block isn't requested again from this peer.
         """
         return self._told(LIBRARY.piecepick_late, _u32(worker), _u32(piece), _u32(begin))
 
     def depth(self, worker: int, depth: int) -> Answer:
-        """From now on so many blocks may be asked of the peer at a time; REFUSED by WRONG_DEPTH beyond `deepest`."""
+        """From now on so many blocks may be requested from the peer at a time; REFUSED by WRONG_DEPTH beyond `deepest`."""
         return self._told(LIBRARY.piecepick_depth, _u32(worker), _u32(depth))
 
     def reach(self, worker: int, level: int) -> Answer:
@@ -406,8 +406,8 @@ class Picker:
     def alone(self, worker: int, yes: bool = True) -> Answer:
         """From now on the peer works alone, or like the others again, as each peer does from when it joins.
 
-        One that works alone begins pieces, and goes on with those that nobody else brought or is expected to bring a block of. Others are asked
-        for none of the blocks of its own pieces until endgame. So the sender of a whole piece is known. Its pieces wait for it: tell it off where
+        One that works alone begins pieces, and goes on with those that nobody else brought or is expected to bring a block of. No block of
+        its own pieces is requested from others until endgame. So the sender of a whole piece is known. Its pieces wait for it: set it back where
         it gets slow, and where it is IDLE with nothing in flight.
         """
         return self._told(LIBRARY.piecepick_alone, _u32(worker), int(bool(yes)))
@@ -464,7 +464,7 @@ class Picker:
     def set_in_order_from(self, level: int) -> Answer:
         """Pieces of this level and of higher ones come in rising order, and of lower ones the rarest first. REFUSED by WRONG_LEVEL above 8.
 
-        With 0 all come in order, with 8 none. It takes the place of what `set_in_order` told, and the other way round.
+        With 0 all come in order, with 8 none. It takes the place of what `set_in_order` set, and the other way round.
         """
         return self._told(LIBRARY.piecepick_set_in_order_from, _u32(level))
 
@@ -477,7 +477,7 @@ class Picker:
     def verdict(self, piece: int, passed: bool) -> Answer:
         """Keeps.NOTHING: the piece is full, and was compared: whether its blocks, as they were stored, have its hash. COMPLETE or FAILED.
 
-        Where the disk couldn't be read nothing is known of the hash: tell `discard` of each block.
+        Where the disk couldn't be read nothing is known of the hash: call `discard` for each block.
         """
         return self._told(LIBRARY.piecepick_verdict, _u32(piece), _u32(int(passed)))
 
@@ -508,12 +508,12 @@ class Picker:
 
     @property
     def is_complete(self) -> bool:
-        """Whether each piece is had."""
+        """Whether each piece is complete."""
         return bool(self._count(LIBRARY.piecepick_is_complete))
 
     @property
     def has_wanted(self) -> bool:
-        """Whether each wanted piece is had."""
+        """Whether each wanted piece is complete."""
         return bool(self._count(LIBRARY.piecepick_has_wanted))
 
     @property
@@ -556,15 +556,15 @@ class Picker:
         return self._count(LIBRARY.piecepick_blocks, _u32(piece))
 
     def sender(self, piece: int, index: int) -> int:
-        """The worker whose peer brought a block that is held; `index` counts the piece's blocks from its front."""
+        """The worker whose peer brought a block that is held; `index` counts the piece's blocks from 0."""
         return self._count(LIBRARY.piecepick_sender, _u32(piece), _u32(index))
 
     def rule(self, piece: int, index: int) -> PickRule:
-        """The rule by which a block was requested: ask it right after its REQUEST. Of any other block it means nothing."""
+        """The rule by which a block was requested: call it right after its REQUEST. Of any other block it means nothing."""
         return PickRule(self._count(LIBRARY.piecepick_rule, _u32(piece), _u32(index)))
 
     def askers(self, piece: int, index: int) -> int:
-        """Of how many peers a block is requested that aren't late with it. Right after its REQUEST the peer itself is one of them."""
+        """From how many peers a block is requested that aren't late with it. Right after its REQUEST the peer itself is one of them."""
         return self._count(LIBRARY.piecepick_askers, _u32(piece), _u32(index))
 
     def is_interesting(self, worker: int) -> bool:
@@ -576,7 +576,7 @@ class Picker:
         return self._count(LIBRARY.piecepick_outstanding, _u32(worker))
 
     def outstanding_at(self, worker: int, place: int) -> Answer:
-        """One of them, told as a REQUEST; the oldest has the place 0."""
+        """One of them, as a REQUEST; the oldest has the place 0."""
         return self._told(LIBRARY.piecepick_outstanding_at, _u32(worker), _u32(place))
 
     # What the metainfo file says.
@@ -589,10 +589,10 @@ class Picker:
     @property
     def name(self) -> bytes:
         """The suggested name, which is perhaps no text; empty where the picker was made of parts."""
-        room = bytearray(self._long_count(LIBRARY.piecepick_name_length))
-        data, length = lend_writable(room)
+        buffer = bytearray(self._long_count(LIBRARY.piecepick_name_length))
+        data, length = lend_writable(buffer)
         self._do(LIBRARY.piecepick_name, data, length)
-        return bytes(room)
+        return bytes(buffer)
 
     @property
     def infohash(self) -> bytes:
@@ -621,22 +621,25 @@ class Picker:
     def _file_part(self, file: int, part: int) -> bytes:
         """A name on its path."""
         place = c_uint64(file), c_uint64(part)
-        room = bytearray(self._long_count(LIBRARY.piecepick_file_part_length, *place))
-        data, length = lend_writable(room)
+        buffer = bytearray(self._long_count(LIBRARY.piecepick_file_part_length, *place))
+        data, length = lend_writable(buffer)
         self._do(LIBRARY.piecepick_file_part, *place, data, length)
-        return bytes(room)
+        return bytes(buffer)
 
     # Keeps.JOURNAL alone.
 
     def read(self, piece: int) -> bytearray:
-        """The bytes of a piece that is had."""
-        room = bytearray(self.piece_length(piece))
-        self.read_into(piece, room)
-        return room
+        """The bytes of a complete piece."""
+        try:
+            buffer = bytearray(self.piece_length(piece))
+        except PiecepickError as fault:
+            _fail("read", fault.status)
+        self.read_into(piece, buffer)
+        return buffer
 
-    def read_into(self, piece: int, room: Writable) -> None:
-        """Writes them into a room of just their length."""
-        data, length = lend_writable(room)
+    def read_into(self, piece: int, buffer: Writable) -> None:
+        """Writes them into a buffer of just their length."""
+        data, length = lend_writable(buffer)
         self._do(LIBRARY.piecepick_read, _u32(piece), data, length)
 
     def audit(self) -> None:
@@ -647,7 +650,7 @@ class Picker:
 class Job:
     """The check of one full piece: `hash` it in any thread, then `settle` it. `with`, `close`, or forgetting it frees it.
 
-    A job has a lock of its own, so that it isn't freed or told while it is hashed. Its picker's lock isn't taken for hashing.
+    A job has a lock of its own, so that it isn't freed or settled while it is hashed. Its picker's lock isn't taken for hashing.
     """
 
     __slots__ = ("__weakref__", "_close", "_handle", "_is_open", "_lock", "_picker", "length", "piece")
@@ -700,11 +703,11 @@ class Job:
 
     def read(self) -> bytearray:
         """The bytes of the piece, before or after it is settled."""
-        room = bytearray(self.length)
-        self.read_into(room)
-        return room
+        buffer = bytearray(self.length)
+        self.read_into(buffer)
+        return buffer
 
-    def read_into(self, room: Writable) -> None:
-        """Writes them into a room of just their length."""
-        data, length = lend_writable(room)
+    def read_into(self, buffer: Writable) -> None:
+        """Writes them into a buffer of just their length."""
+        data, length = lend_writable(buffer)
         self._do(LIBRARY.piecepick_job_read, data, length)

@@ -683,6 +683,8 @@ class Journal(CallCase):
                 self.assertEqual(made.read(piece), part)
             self.assert_status(Status.LENGTH, made.read_into, 0, bytearray(1))
             self.assert_status(Status.PIECE, made.settle_now, PIECES)
+            with self.assertRaisesRegex(InputFault, "^read: no such piece$"):
+                made.read(PIECES)
             self.assertTrue(made.is_complete and made.has_wanted)
             made.audit()
 

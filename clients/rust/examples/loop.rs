@@ -1,8 +1,8 @@
-//! A client's loop round the picker, without a network: two peers in memory that have all of the content answer what they are asked.
+//! A client's loop round the picker, without a network: two peers in memory that have all of the content answer our requests.
 //!
 //! usage: cargo run --example loop [FILE.torrent CONTENT]
 //!
-//! It downloads the content of the torrent from the peers, compares it, and prints how many pieces are had. Where no files are named, it
+//! It downloads the content of the torrent from the peers, compares it, and prints how many pieces are complete. Where no files are named, it
 //! makes some content.
 
 use piecepick::{hash_four, Answer, Block, Error, Keeps, Options, Picker};
@@ -17,7 +17,7 @@ struct Peer<'a> {
     worker: u32,
     content: &'a [u8],
     piece_length: usize,
-    asked: Vec<Block>,
+    requests: Vec<Block>,
 }
 
 impl Peer<'_> {
@@ -46,12 +46,12 @@ fn all(pieces: u32) -> Vec<u8> {
 }
 
 /// Says to the peer what the picker has for it, until there is nothing more to say.
-fn ask(picker: &mut Picker, peer: &mut Peer, word: &mut u64) -> Result<(), Error> {
+fn query(picker: &mut Picker, peer: &mut Peer, word: &mut u64) -> Result<(), Error> {
     loop {
         *word = word.wrapping_mul(6_364_136_223_846_793_005).wrapping_add(1);
         match picker.next(peer.worker, *word)? {
-            Answer::Request(block) => peer.asked.push(block),
-            Answer::Cancel(block) => peer.asked.retain(|other| *other != block),
+            Answer::Request(block) => peer.requests.push(block),
+            Answer::Cancel(block) => peer.requests.retain(|other| *other != block),
             _ => return Ok(()),
         }
     }
@@ -67,17 +67,17 @@ fn check(picker: &mut Picker, piece: u32, file: &mut [u8], begin: usize) -> Resu
     Ok(())
 }
 
-/// The oldest block that was asked of the peer comes, if there is one. Then there is room for another request.
+/// The oldest block that was requested from the peer comes, if there is one. Then another request fits.
 fn hear(picker: &mut Picker, peer: &mut Peer, file: &mut [u8], word: &mut u64) -> Result<(), Error> {
-    if !peer.asked.is_empty() {
-        let block = peer.asked.remove(0);
+    if !peer.requests.is_empty() {
+        let block = peer.requests.remove(0);
         // The library keeps the copy that it stores. Where it keeps nothing, write the bytes at `Stored` and `Full`, and at no other answer.
         let answer = picker.arrived(peer.worker, block.piece, block.begin, peer.block(block))?;
         if answer == Answer::Full {
             check(picker, block.piece, file, block.piece as usize * peer.piece_length)?;
         }
     }
-    ask(picker, peer, word)
+    query(picker, peer, word)
 }
 
 /// The handshakes were exchanged; the peer shows each piece, and unchokes us.
@@ -85,7 +85,7 @@ fn come<'a>(picker: &mut Picker, worker: u32, content: &'a [u8]) -> Result<Peer<
     picker.join(worker)?;
     picker.bits(worker, &all(picker.pieces()))?;
     picker.unchoke(worker)?;
-    Ok(Peer { worker, content, piece_length: picker.piece_length(0)? as usize, asked: Vec::new() })
+    Ok(Peer { worker, content, piece_length: picker.piece_length(0)? as usize, requests: Vec::new() })
 }
 
 /// Downloads; whether the file is the content then.
@@ -101,7 +101,7 @@ fn run(mut picker: Picker, content: &[u8]) -> Result<bool, Error> {
         }
     }
     let is_same = file == content;
-    println!("{} pieces had, the content is {}", picker.pieces(), if is_same { "the same" } else { "another" });
+    println!("{} pieces complete, the content is {}", picker.pieces(), if is_same { "the same" } else { "another" });
     Ok(is_same)
 }
 

@@ -21,7 +21,7 @@ pub enum Answer {
     Joined,
     /// What the peer has is noted.
     Noted {
-        /// The peer has a wanted piece that isn't had.
+        /// The peer has a wanted piece that isn't complete.
         interesting: bool,
     },
     /// Done; there is nothing to say.
@@ -30,13 +30,13 @@ pub enum Answer {
     Cancel(Block),
     /// To be sent as `request`. Ask again.
     Request(Block),
-    /// Nothing to ask: the peer chokes us.
+    /// Nothing to request: the peer chokes us.
     Choked,
-    /// Nothing to ask: as many blocks as may be are asked of the peer.
+    /// Nothing to request: as many blocks as may be are requested from the peer.
     PipeFull,
-    /// Nothing to ask now, though the peer has a wanted piece that isn't had.
+    /// Nothing to request now, though the peer has a wanted piece that isn't complete.
     Idle,
-    /// The peer shows no wanted piece that isn't had.
+    /// The peer shows no wanted piece that isn't complete.
     NothingLeft,
     /// The block is held: where nothing is kept, write its bytes now.
     Stored,
@@ -80,7 +80,7 @@ pub enum Reason {
     NotJoined,
     /// The worker has joined already.
     AlreadyJoined,
-    /// A bitfield that isn't the peer's first word: tell it by [`haves`](crate::Picker::haves).
+    /// A bitfield that isn't the peer's first message: report it by [`haves`](crate::Picker::haves).
     LateBits,
     /// Not one for each piece.
     WrongCount,
@@ -94,7 +94,7 @@ pub enum Reason {
     NotWaiting,
     /// The bytes that were hashed are no longer those held.
     Stale,
-    /// The block isn't asked of the peer.
+    /// The block isn't requested from the peer.
     NotRequested,
     /// A depth of 0, or beyond the deepest.
     WrongDepth,
@@ -103,7 +103,7 @@ pub enum Reason {
 }
 
 impl Reason {
-    /// The reason of a number that the library has told.
+    /// The reason of a number that the library gave.
     fn of(number: sys::piecepick_reason) -> Reason {
         match number {
             1 => Reason::NotJoined,
@@ -118,7 +118,7 @@ impl Reason {
             10 => Reason::NotRequested,
             11 => Reason::WrongDepth,
             12 => Reason::WrongLevel,
-            _ => panic!("libpiecepick told the reason {number}, which its interface hasn't"),
+            _ => panic!("libpiecepick gave the reason {number}, which its interface hasn't"),
         }
     }
 }
@@ -142,7 +142,7 @@ impl fmt::Display for Reason {
     }
 }
 
-/// The rule by which a block was requested: [`rule`](crate::Picker::rule) tells it.
+/// The rule by which a block was requested: [`rule`](crate::Picker::rule) says it.
 #[derive(Clone, Copy, Debug, PartialEq, Eq, Hash)]
 pub enum PickRule {
     /// Pieces of its level come in rising order, begun or not.
@@ -151,16 +151,16 @@ pub enum PickRule {
     Begun,
     /// Its piece begins, as one that fewest peers show.
     Rarest,
-    /// Its piece begins at random: too few are had to tell which are rare.
+    /// Its piece begins at random: too few are complete to know which are rare.
     Random,
-    /// Another peer is asked for it too, and isn't late.
+    /// It is requested from another peer too, which isn't late.
     Endgame,
     /// Its request to another peer is [`late`](crate::Picker::late).
     Late,
 }
 
 impl PickRule {
-    /// The rule of a number that the library has told.
+    /// The rule of a number that the library gave.
     pub(crate) fn of(number: u32) -> PickRule {
         match number {
             1 => PickRule::InOrder,
@@ -169,7 +169,7 @@ impl PickRule {
             4 => PickRule::Random,
             5 => PickRule::Endgame,
             6 => PickRule::Late,
-            _ => panic!("libpiecepick told the rule {number}, which its interface hasn't"),
+            _ => panic!("libpiecepick gave the rule {number}, which its interface hasn't"),
         }
     }
 }
@@ -189,11 +189,11 @@ impl fmt::Display for PickRule {
 
 impl Answer {
     /// The answer that the library wrote, at a status of OK.
-    pub(crate) fn of(told: &sys::piecepick_answer) -> Answer {
-        let block = Block { piece: told.piece, begin: told.begin, length: told.length };
-        match told.kind {
+    pub(crate) fn of(given: &sys::piecepick_answer) -> Answer {
+        let block = Block { piece: given.piece, begin: given.begin, length: given.length };
+        match given.kind {
             1 => Answer::Joined,
-            2 => Answer::Noted { interesting: told.interesting == 1 },
+            2 => Answer::Noted { interesting: given.interesting == 1 },
             3 => Answer::Quiet,
             4 => Answer::Cancel(block),
             5 => Answer::Request(block),
@@ -206,7 +206,7 @@ impl Answer {
             12 => Answer::Dropped,
             13 => Answer::Complete,
             14 => Answer::Failed,
-            15 => Answer::Refused(Reason::of(told.reason)),
+            15 => Answer::Refused(Reason::of(given.reason)),
             kind => panic!("libpiecepick answered the kind {kind}, which its interface hasn't"),
         }
     }

@@ -6,13 +6,13 @@ use crate::options::Options;
 const BLOCK: u64 = 16_384;
 /// The seconds in which is counted.
 const SECONDS: u64 = 8;
-/// Those that tell of a rate that rises.
+/// Those that show a rate that rises.
 const LAST_SECONDS: u64 = 2;
 const LEAST_DEPTH: u64 = 4;
 const ENDGAME_DEPTH: u32 = 6;
 const GREATEST_DEPTH: u32 = 4_096;
 
-/// The depth of one peer, by what came of it: tell [`Picker::depth`](crate::Picker::depth) what [`follow`](DepthByRate::follow) answers.
+/// The depth of one peer, by what came from it: pass [`Picker::depth`](crate::Picker::depth) what [`follow`](DepthByRate::follow) answers.
 ///
 /// ```
 /// use piecepick::{DepthByRate, Options};
@@ -27,7 +27,7 @@ const GREATEST_DEPTH: u32 = 4_096;
 /// After a time-out it is 4, until a block comes. Before the first block or time-out it is that of the options.
 ///
 /// Times are milliseconds of one clock that doesn't go back, such as [`Instant`](std::time::Instant). A time that is earlier than the newest one
-/// counts as that. A second begins where its time is a multiple of 1,000, and counts at most 2^32 - 1 bytes. So any numbers may be told. Nothing
+/// counts as that. A second begins where its time is a multiple of 1,000, and counts at most 2^32 - 1 bytes. So any numbers may be passed. Nothing
 /// fails, takes memory, or calls the library.
 #[derive(Clone, Copy, Debug, PartialEq, Eq)]
 pub struct DepthByRate {
@@ -83,13 +83,13 @@ impl DepthByRate {
         self.is_late = false;
     }
 
-    /// A request took too long, and was told late.
+    /// A request took too long, and was reported as late.
     pub fn timed_out(&mut self) {
         self.is_begun = true;
         self.is_late = true;
     }
 
-    /// Tell at each request whether another peer that isn't late is asked for its block too. The depth is at most 6 at once where that is so.
+    /// Report at each request whether its block is requested from another peer too, which isn't late. The depth is at most 6 at once where that is so.
     pub fn set_in_endgame(&mut self, is_in_endgame: bool) {
         self.is_in_endgame = is_in_endgame;
         if is_in_endgame {
@@ -113,7 +113,7 @@ impl DepthByRate {
         self.depth
     }
 
-    /// The depth that the rate asks for. The last two seconds tell of a rate that rises, and all of them of one that comes in bursts.
+    /// The depth that the rate asks for. The last two seconds show a rate that rises, and all of them one that comes in bursts.
     fn wanted(&self) -> u32 {
         let most = if self.is_in_endgame { self.deepest.min(ENDGAME_DEPTH) } else { self.deepest };
         let rate = if self.is_late { 0 } else { self.blocks(LAST_SECONDS).max(self.blocks(SECONDS)) };
@@ -138,7 +138,7 @@ impl DepthByRate {
         let passed = (1000 * (seconds - 1) + self.now % 1000).min(self.now - self.begin);
         let second = self.now / 1000;
         let bytes: u64 = (0..seconds).map(|back| u64::from(self.counts[place(second + SECONDS - back)])).sum();
-        // Of less than a second nothing can be told.
+        // Less than a second says nothing.
         bytes * 1000 / (passed.max(1000) * BLOCK)
     }
 }

@@ -18,7 +18,7 @@ pub fn hash(message: &[u8]) -> Digest {
 pub fn hash_four(messages: [&[u8]; 4]) -> [Digest; 4] {
     let [first, second, third, fourth] = messages;
     let mut digests = [[0; 20]; 4];
-    // SAFETY: the messages are valid for their lengths, and the room of 80 bytes is ours alone.
+    // SAFETY: the messages are valid for their lengths, and the buffer of 80 bytes is ours alone.
     let status = unsafe {
         sys::piecepick_hash_four(
             first.as_ptr(),
@@ -33,6 +33,6 @@ pub fn hash_four(messages: [&[u8]; 4]) -> [Digest; 4] {
             80,
         )
     };
-    check(status).expect("a room of 80 bytes is the only thing that is tested");
+    check(status).expect("a buffer of 80 bytes is the only thing that is tested");
     digests
 }

@@ -5,7 +5,7 @@ use crate::sys;
 use std::fmt;
 use std::ptr::NonNull;
 
-/// The check of one full piece, from [`Picker::job_take`](crate::Picker::job_take): hash it in any thread, then tell the verdict by
+/// The check of one full piece, from [`Picker::job_take`](crate::Picker::job_take): hash it in any thread, then report the verdict by
 /// [`Picker::job_settle`](crate::Picker::job_settle). It may be dropped at any time, before or after its picker.
 pub struct Job {
     pub(crate) pointer: NonNull<sys::piecepick_job>,
@@ -38,17 +38,17 @@ impl Job {
         check(unsafe { sys::piecepick_job_hash(self.pointer.as_ptr()) })
     }
 
-    /// Writes the bytes of the piece into a room of just their length, before or after it is settled.
-    pub fn read_into(&self, room: &mut [u8]) -> Result<(), Error> {
-        // SAFETY: the job is open, no other call is made at it, and the room may be written.
-        check(unsafe { sys::piecepick_job_read(self.pointer.as_ptr(), room.as_mut_ptr(), room.len()) })
+    /// Writes the bytes of the piece into a buffer of just their length, before or after it is settled.
+    pub fn read_into(&self, buffer: &mut [u8]) -> Result<(), Error> {
+        // SAFETY: the job is open, no other call is made at it, and the buffer may be written.
+        check(unsafe { sys::piecepick_job_read(self.pointer.as_ptr(), buffer.as_mut_ptr(), buffer.len()) })
     }
 
     /// The bytes of the piece.
     pub fn read(&self) -> Vec<u8> {
-        let mut room = vec![0; self.length as usize];
-        self.read_into(&mut room).expect("the room has the piece's length");
-        room
+        let mut buffer = vec![0; self.length as usize];
+        self.read_into(&mut buffer).expect("the buffer has the piece's length");
+        buffer
     }
 }
 

@@ -33,7 +33,7 @@
 //! is_sync::<piecepick::Picker>();
 //! ```
 //!
-//! Calls that tell something take `&mut self`. Queries take `&self`, though C has a pointer there that isn't const. What lies behind it is
+//! Calls that report or set something take `&mut self`. Queries take `&self`, though C has a pointer there that isn't const. What lies behind it is
 //! memory of C, to which Rust has no reference. No other thread can make a call meanwhile, and the library calls nothing back.
 
 #![warn(missing_docs)]

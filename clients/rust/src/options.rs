@@ -3,14 +3,14 @@
 use crate::sys;
 use std::mem::size_of;
 
-/// What a picker keeps of what it is told.
+/// What a picker keeps of what is reported.
 #[derive(Clone, Copy, Debug, Default, PartialEq, Eq, Hash)]
 pub enum Keeps {
-    /// Neither content nor journal: the caller keeps the content and hashes it, and tells the digest
+    /// Neither content nor journal: the caller keeps the content and hashes it, and passes the digest
     /// ([`settle`](crate::Picker::settle)).
     #[default]
     Nothing = 0,
-    /// The blocks of pieces that are begun, until they are had: a [`Job`](crate::Job) hashes them, and hands them out.
+    /// The blocks of pieces that are begun, until these are complete: a [`Job`](crate::Job) hashes them, and hands them out.
     Begun = 1,
     /// All content, and each call with its answer, until the picker is dropped: for simulators and audits.
     Journal = 2,
@@ -55,25 +55,25 @@ impl Options {
         Options { workers, ..self }
     }
 
-    /// Blocks asked of a peer at a time until another depth is told, 1 to 64. 16, where it isn't said.
+    /// Blocks requested from a peer at a time until another depth is set, 1 to 64. 16, where it isn't said.
     #[must_use]
     pub fn depth(self, depth: u32) -> Options {
         Options { depth, ..self }
     }
 
-    /// The greatest depth that may be told, 1 to 4,096. 500, where it isn't said.
+    /// The greatest depth that may be set, 1 to 4,096. 500, where it isn't said.
     #[must_use]
     pub fn deepest(self, deepest: u32) -> Options {
         Options { deepest, ..self }
     }
 
-    /// Pieces that are had before the rarest come first, no more than there are. 1, where it isn't said.
+    /// Pieces that are complete before the rarest come first, no more than there are. 1, where it isn't said.
     #[must_use]
     pub fn random(self, random: u32) -> Options {
         Options { random, ..self }
     }
 
-    /// Of how many peers one block is asked at most in endgame, 1 (no endgame) to 1,024 (no bound). 2, where it isn't said.
+    /// From how many peers one block is requested at most in endgame, 1 (no endgame) to 1,024 (no bound). 2, where it isn't said.
     #[must_use]
     pub fn askers(self, askers: u32) -> Options {
         Options { askers, ..self }
@@ -86,7 +86,7 @@ impl Options {
         Options { open, ..self }
     }
 
-    /// In endgame a block is asked again only of a peer that is asked for fewer than so many, 0 (no endgame) to 4,096 (no bound). 32, where it
+    /// In endgame a block is requested again only from a peer with fewer requests than this, 0 (no endgame) to 4,096 (no bound). 32, where it
     /// isn't said.
     #[must_use]
     pub fn rush(self, rush: u32) -> Options {
@@ -99,7 +99,7 @@ impl Options {
         Options { shown, ..self }
     }
 
-    /// The depth at first, and the greatest one that may be told.
+    /// The depth at first, and the greatest one that may be set.
     pub(crate) fn depths(&self) -> (u32, u32) {
         (self.depth, self.deepest)
     }

@@ -53,9 +53,9 @@ impl Picker {
         &self,
         call: impl FnOnce(*mut sys::piecepick_picker, &mut sys::piecepick_answer) -> sys::piecepick_status,
     ) -> Result<Answer, Error> {
-        let mut told = sys::piecepick_answer::default();
-        check(call(self.pointer.as_ptr(), &mut told))?;
-        Ok(Answer::of(&told))
+        let mut given = sys::piecepick_answer::default();
+        check(call(self.pointer.as_ptr(), &mut given))?;
+        Ok(Answer::of(&given))
     }
 
     /// Makes a call that writes a number.
@@ -80,7 +80,7 @@ impl Picker {
         self.answer(|picker, answer| unsafe { sys::piecepick_leave(picker, worker, answer) })
     }
 
-    /// A `choke` message came, or the peer is silent: what was asked of it is free for others.
+    /// A `choke` message came, or the peer is silent: what was requested from it is free for others.
     pub fn choke(&mut self, worker: u32) -> Result<Answer, Error> {
         self.answer(|picker, answer| unsafe { sys::piecepick_choke(picker, worker, answer) })
     }
@@ -107,8 +107,8 @@ impl Picker {
         self.answer(|picker, answer| unsafe { sys::piecepick_haves(picker, worker, first, length, answer) })
     }
 
-    /// The peer has this piece no more (`lt_donthave`, BEP 54), until a later call shows it again. Blocks of it that are asked of the peer
-    /// are asked of it no more, with no cancel, and any peer may be asked for them.
+    /// The peer has this piece no more (`lt_donthave`, BEP 54), until a later call shows it again. Blocks of it that are requested from
+    /// the peer are released, with no cancel, and may be requested from any peer.
     pub fn lack(&mut self, worker: u32, piece: u32) -> Result<Answer, Error> {
         self.answer(|picker, answer| unsafe { sys::piecepick_lack(picker, worker, piece, answer) })
     }
@@ -121,27 +121,27 @@ impl Picker {
         self.answer(|picker, answer| unsafe { sys::piecepick_arrived(picker, worker, piece, begin, first, length, answer) })
     }
 
-    /// The block that begins there is asked of the peer no more: the peer rejected it (BEP 6), or the request was not sent. Any peer may be
-    /// asked for it again, and it is kept if it comes after all.
+    /// The block that begins there is requested from the peer no more: the peer rejected it (BEP 6), or the request was not sent. It may be
+    /// requested again from any peer, and it is kept if it comes after all.
     pub fn release(&mut self, worker: u32, piece: u32, begin: u32) -> Result<Answer, Error> {
         self.answer(|picker, answer| unsafe { sys::piecepick_release(picker, worker, piece, begin, answer) })
     }
 
     /// A request takes too long: late. It was rejected, or never sent: [`release`](Picker::release).
     ///
-    /// The block that begins there stays asked of the peer, and counts for its depth. One of the other peers may be asked for it at once,
-    /// before endgame. When another one brings it, a cancel is due at this peer as ever. While the request lasts, this peer isn't asked for
-    /// the block again.
+    /// The block that begins there stays requested from the peer, and counts for its depth. It may be requested from another peer at once,
+    /// before endgame. When that one brings it, a cancel is due at this peer as ever. While the request lasts, the block isn't requested
+    /// again from this peer.
     pub fn late(&mut self, worker: u32, piece: u32, begin: u32) -> Result<Answer, Error> {
         self.answer(|picker, answer| unsafe { sys::piecepick_late(picker, worker, piece, begin, answer) })
     }
 
-    /// From now on so many blocks may be asked of the peer at a time, until another number is told or the worker's next peer joins.
+    /// From now on so many blocks may be requested from the peer at a time, until another number is set or the worker's next peer joins.
     pub fn depth(&mut self, worker: u32, depth: u32) -> Result<Answer, Error> {
         self.answer(|picker, answer| unsafe { sys::piecepick_depth(picker, worker, depth, answer) })
     }
 
-    /// From now on only blocks of this level and of lower ones are requested of the peer, until another is told or the worker's next peer
+    /// From now on only blocks of this level and of lower ones are requested from the peer, until another is set or the worker's next peer
     /// joins. Each peer begins with 7, which is all levels, and with 0 nothing is requested. So a slow peer gets nothing urgent.
     pub fn reach(&mut self, worker: u32, level: u32) -> Result<Answer, Error> {
         self.answer(|picker, answer| unsafe { sys::piecepick_reach(picker, worker, level, answer) })
@@ -149,9 +149,9 @@ impl Picker {
 
     /// From now on the peer works alone, or like the others again, as each peer does from when it joins.
     ///
-    /// One that works alone begins pieces, and goes on with those that nobody else brought or is expected to bring a block of. Others are
-    /// asked for none of the blocks of its own pieces until endgame. So the sender of a whole piece is known where a check failed, or a
-    /// fast peer or a web seed has pieces to itself. Its pieces wait for it: tell it off where it gets slow, and where it is
+    /// One that works alone begins pieces, and goes on with those that nobody else brought or is expected to bring a block of. No block
+    /// of its own pieces is requested from others until endgame. So the sender of a whole piece is known where a check failed, or a
+    /// fast peer or a web seed has pieces to itself. Its pieces wait for it: set it back where it gets slow, and where it is
     /// [`Answer::Idle`] with nothing in flight.
     pub fn alone(&mut self, worker: u32, yes: bool) -> Result<Answer, Error> {
         let yes = u32::from(yes);
@@ -208,7 +208,7 @@ impl Picker {
     }
 
     /// Pieces of this level and of higher ones come in rising order from now on, and those of lower levels the rarest first. With 0 all
-    /// come in order, with 8 none. It takes the place of what [`set_in_order`](Picker::set_in_order) told, and the other way round.
+    /// come in order, with 8 none. It takes the place of what [`set_in_order`](Picker::set_in_order) sets, and the other way round.
     pub fn set_in_order_from(&mut self, level: u32) -> Result<Answer, Error> {
         self.answer(|picker, answer| unsafe { sys::piecepick_set_in_order_from(picker, level, answer) })
     }
@@ -226,7 +226,7 @@ impl Picker {
     /// [`Keeps::Nothing`](crate::Keeps::Nothing): the piece is full, and was compared: whether its blocks, as they were stored, have its
     /// hash. [`Answer::Complete`] or [`Answer::Failed`]. As with [`settle`](Self::settle), the library can't test it.
     ///
-    /// Where the disk couldn't be read nothing is known of the hash: tell [`discard`](Self::discard) of each block.
+    /// Where the disk couldn't be read nothing is known of the hash: call [`discard`](Self::discard) for each block.
     pub fn verdict(&mut self, piece: u32, passed: bool) -> Result<Answer, Error> {
         self.answer(|picker, answer| unsafe { sys::piecepick_verdict(picker, piece, u32::from(passed), answer) })
     }
@@ -265,12 +265,12 @@ impl Picker {
         self.sure(|picker, number| unsafe { sys::piecepick_workers(picker, number) })
     }
 
-    /// Whether each piece is had.
+    /// Whether each piece is complete.
     pub fn is_complete(&self) -> bool {
         self.sure(|picker, number| unsafe { sys::piecepick_is_complete(picker, number) }) == 1
     }
 
-    /// Whether each wanted piece is had.
+    /// Whether each wanted piece is complete.
     pub fn has_wanted(&self) -> bool {
         self.sure(|picker, number| unsafe { sys::piecepick_has_wanted(picker, number) }) == 1
     }
@@ -285,8 +285,8 @@ impl Picker {
         self.sure(|picker, number| unsafe { sys::piecepick_order_from(picker, number) })
     }
 
-    /// While it is the same, a peer whose answer was [`Answer::Idle`] or [`Answer::NothingLeft`] needn't be asked again, unless its own
-    /// worker told something.
+    /// While it is the same, a peer whose answer was [`Answer::Idle`] or [`Answer::NothingLeft`] needn't be queried for again, unless
+    /// something is reported by its own worker.
     pub fn epoch(&self) -> u64 {
         self.sure(|picker, number| unsafe { sys::piecepick_epoch(picker, number) })
     }
@@ -321,19 +321,19 @@ impl Picker {
         self.number(|picker, number| unsafe { sys::piecepick_blocks(picker, piece, number) })
     }
 
-    /// The worker whose peer brought a block that is held; `index` counts the piece's blocks from its front. Ask it of a piece whose
-    /// bytes have another hash, before it is settled.
+    /// The worker whose peer brought a block that is held; `index` counts the piece's blocks from 0. Call it for a piece
+    /// whose bytes have another hash, before it is settled.
     pub fn sender(&self, piece: u32, index: u32) -> Result<u32, Error> {
         self.number(|picker, number| unsafe { sys::piecepick_sender(picker, piece, index, number) })
     }
 
-    /// The rule by which a block was requested; `index` counts the piece's blocks from its front. Ask it of the block of an
-    /// [`Answer::Request`], before the next call that tells something. Of any other block it means nothing.
+    /// The rule by which a block was requested; `index` counts the piece's blocks from 0. Call it for the block of
+    /// an [`Answer::Request`], before the next call that reports something. Of any other block it means nothing.
     pub fn rule(&self, piece: u32, index: u32) -> Result<PickRule, Error> {
         Ok(PickRule::of(self.number(|picker, number| unsafe { sys::piecepick_rule(picker, piece, index, number) })?))
     }
 
-    /// Of how many peers a block is requested that aren't late with it; `index` counts the piece's blocks from its front. Right after an
+    /// From how many peers a block is requested that aren't late with it; `index` counts the piece's blocks from 0. Right after an
     /// [`Answer::Request`] the peer itself is one of them.
     pub fn askers(&self, piece: u32, index: u32) -> Result<u32, Error> {
         self.number(|picker, number| unsafe { sys::piecepick_askers(picker, piece, index, number) })
@@ -353,7 +353,7 @@ impl Picker {
     pub fn outstanding_at(&self, worker: u32, place: u32) -> Result<Block, Error> {
         match self.answer(|picker, answer| unsafe { sys::piecepick_outstanding_at(picker, worker, place, answer) })? {
             Answer::Request(block) => Ok(block),
-            other => panic!("libpiecepick told {other:?} where a request is outstanding"),
+            other => panic!("libpiecepick gave {other:?} where a request is outstanding"),
         }
     }
 
@@ -365,10 +365,10 @@ impl Picker {
     /// The name that the metainfo file suggests, which is perhaps no text.
     pub fn name(&self) -> Vec<u8> {
         let length: u64 = self.sure(|picker, number| unsafe { sys::piecepick_name_length(picker, number) });
-        let mut room = vec![0; length as usize];
-        let status = unsafe { sys::piecepick_name(self.pointer.as_ptr(), room.as_mut_ptr(), room.len()) };
-        check(status).expect("the room has the name's length");
-        room
+        let mut buffer = vec![0; length as usize];
+        let status = unsafe { sys::piecepick_name(self.pointer.as_ptr(), buffer.as_mut_ptr(), buffer.len()) };
+        check(status).expect("the buffer has the name's length");
+        buffer
     }
 
     /// The SHA-1 of the info dictionary.
@@ -401,10 +401,10 @@ impl Picker {
     /// A name on its path.
     fn file_part(&self, file: u64, part: u64) -> Vec<u8> {
         let length: u64 = self.sure(|picker, number| unsafe { sys::piecepick_file_part_length(picker, file, part, number) });
-        let mut room = vec![0; length as usize];
-        let status = unsafe { sys::piecepick_file_part(self.pointer.as_ptr(), file, part, room.as_mut_ptr(), room.len()) };
-        check(status).expect("the room has the name's length");
-        room
+        let mut buffer = vec![0; length as usize];
+        let status = unsafe { sys::piecepick_file_part(self.pointer.as_ptr(), file, part, buffer.as_mut_ptr(), buffer.len()) };
+        check(status).expect("the buffer has the name's length");
+        buffer
     }
 
     /// [`Keeps::Journal`](crate::Keeps::Journal): hashes a full piece, here and now. [`Answer::Complete`] or [`Answer::Failed`].
@@ -412,16 +412,16 @@ impl Picker {
         self.answer(|picker, answer| unsafe { sys::piecepick_settle_now(picker, piece, answer) })
     }
 
-    /// [`Keeps::Journal`](crate::Keeps::Journal): writes a had piece into a room of just its length.
-    pub fn read_into(&self, piece: u32, room: &mut [u8]) -> Result<(), Error> {
-        check(unsafe { sys::piecepick_read(self.pointer.as_ptr(), piece, room.as_mut_ptr(), room.len()) })
+    /// [`Keeps::Journal`](crate::Keeps::Journal): writes a complete piece into a buffer of just its length.
+    pub fn read_into(&self, piece: u32, buffer: &mut [u8]) -> Result<(), Error> {
+        check(unsafe { sys::piecepick_read(self.pointer.as_ptr(), piece, buffer.as_mut_ptr(), buffer.len()) })
     }
 
-    /// [`Keeps::Journal`](crate::Keeps::Journal): the bytes of a had piece.
+    /// [`Keeps::Journal`](crate::Keeps::Journal): the bytes of a complete piece.
     pub fn read(&self, piece: u32) -> Result<Vec<u8>, Error> {
-        let mut room = vec![0; self.piece_length(piece)? as usize];
-        self.read_into(piece, &mut room)?;
-        Ok(room)
+        let mut buffer = vec![0; self.piece_length(piece)? as usize];
+        self.read_into(piece, &mut buffer)?;
+        Ok(buffer)
     }
 
     /// [`Keeps::Journal`](crate::Keeps::Journal): goes over the journal of all calls by the picker's rules. No journal fails it.
