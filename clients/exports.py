@@ -2,7 +2,7 @@
 """Compares the library's exports with its header, and with the Python package where it is there: names, and the types and names of
 parameters and results; the fields of structs; and the numbers of statuses, kinds of answers, reasons, rules, of what is kept, and of the
 interface. What header, Python package and Rust crate say of a status and of a reason has to be the same too, and so have the numbers
-and names in docs/ERRORS.md.
+and names in docs/GUIDE.md.
 
 usage: exports.py        (in the repository; nothing needs to be built)
 
@@ -26,7 +26,7 @@ HEADER = HERE / "piecepick.h"
 NATIVE = HERE / "python" / "piecepick" / "_native.py"
 TEXTS = NATIVE.parent / "_texts.py"
 RUST = HERE / "rust" / "src"
-PAGE = HERE.parent / "docs" / "ERRORS.md"
+PAGE = HERE.parent / "docs" / "GUIDE.md"
 PREFIX = "piecepick_"
 
 # What a parameter of an export is in C; a slice is two, of which the second is its length. The allocator takes no room in a call.
@@ -276,7 +276,7 @@ def page() -> list[str]:
     rows = re.findall(r"(?m)^\| (\d+) \| `([A-Z_]+)` \| *`?(\w*)`? *\|", PAGE.read_text())
     there = {status: (int(number), name) for number, status, name in rows}
     wanted = {name: (number, named.get(name, "")) for name, number in header_numbers()["Status"].items() if number}
-    return [line.replace("the library has", "header and crate have") for line in entries("ERRORS.md", wanted, there)]
+    return [line.replace("the library has", "header and crate have") for line in entries("GUIDE.md", wanted, there)]
 
 
 def structs() -> dict[str, Fields]:

@@ -2569,7 +2569,7 @@ static void try_copies(uint32_t keeps)
     piecepick_close(&picker);
 }
 
-/* ---- Extensions of the protocol, and what a client meets, as docs/CALLS.md has them. */
+/* ---- Extensions of the protocol, and what a client meets, as docs/GUIDE.md has them. */
 
 /* A peer chokes us, and lets us fetch two pieces all the same (BEP 6). A second number stands for it, which shows these alone. Once the peer
    unchokes us, that number shows the rest and the first one leaves, or the other way round. */

@@ -4,7 +4,7 @@
     tools/fuzz.py [INPUTS [SEED]] [--program FILE] [--open]
     tools/fuzz.py picks [N [SEED]] [--program FILE | --library] [--open]
 
-10,000 inputs and the seed 1 where they aren't said. Each run has to end by a status of its command's list (docs/ERRORS.md), without a
+10,000 inputs and the seed 1 where they aren't said. Each run has to end by a status of its command's list (docs/GUIDE.md), without a
 signal. A run of recordings has to find its journal sound, and a script has to print just the replies of the plain model (tools/model.py).
 An input that goes wrong is kept in the folder that is printed.
 

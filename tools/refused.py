@@ -5,7 +5,7 @@
     tools/refused.py tests [CRATE..]
 
 Each command line below is run as it stands, and then with the first, second, third .. allocation, read, write and thread of the program
-refused (tools/refuse.c, which the system's `cc` builds). Each run has to end within a minute, by a status of docs/ERRORS.md and without a
+refused (tools/refuse.c, which the system's `cc` builds). Each run has to end within a minute, by a status of docs/GUIDE.md and without a
 signal, and print what an undisturbed run prints, or whole lines of its front, or the report of a run whose journal was found sound. Where
 no session found memory lacking, such a report has all pieces that the undisturbed run has: a check that was given up is made by the last
 worker. Where a thread is refused, nothing is printed but `no thread`. RUNS, 1 where it isn't said, is how often each command line of `run`

@@ -1,5 +1,5 @@
 #!/usr/bin/env python3
-"""Writes the table of who stands on whom into docs/ARCHITECTURE.md, from crates.txt. With --check it only says whether the table is current.
+"""Writes the table of who stands on whom into docs/DESIGN.md, from crates.txt. With --check it only says whether the table is current.
 
     tools/uses.py [--check]
 """
@@ -11,7 +11,7 @@ import sys
 from pathlib import Path
 
 ROOT = Path(__file__).resolve().parent.parent
-PAGE = ROOT / "docs/ARCHITECTURE.md"
+PAGE = ROOT / "docs/DESIGN.md"
 BEGIN, END = "<!-- uses: made by tools/uses.py -->\n", "<!-- end of uses -->\n"
 
 
@@ -39,7 +39,7 @@ def main() -> None:
     page = PAGE.read_text(encoding="utf-8")
     now = re.sub(re.escape(BEGIN) + ".*?" + re.escape(END), lambda _: BEGIN + table() + END, page, flags=re.S)
     if "--check" in sys.argv[1:]:
-        sys.exit(0 if now == page else "docs/ARCHITECTURE.md: the table of crates is not that of crates.txt")
+        sys.exit(0 if now == page else "docs/DESIGN.md: the table of crates is not that of crates.txt")
     PAGE.write_text(now, encoding="utf-8")
 
 

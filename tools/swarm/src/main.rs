@@ -145,7 +145,7 @@ fn most_memory() -> Fallible<u64> {
 /// Runs a scenario, and writes its table and its pictures into the folder docs of the repository.
 fn write_page(scenario: &Scenario) -> Fallible<()> {
     let docs: PathBuf = Path::new(env!("CARGO_MANIFEST_DIR")).join("../../docs");
-    let page = docs.join("SWARMS.md");
+    let page = docs.join("swarms/tables.txt");
     // A page without the region is told before the runs, which may take an hour.
     page::replace(&fs::read_to_string(&page)?, scenario.name, "")?;
     let (rows, text) = played(scenario, &usual_rules(scenario))?;
