@@ -38,6 +38,13 @@ if has shellcheck shellcheck --version; then
     shellcheck "$root/piecepick" "$root/test" "$root/.ci/run" "$here"/*.sh "$here"/transmission/*.sh "$root"/tools/*.sh "$root"/tools/*/*.sh || bad shellcheck
 fi
 
+if has doxygen doxygen --version; then
+    printf 'INPUT = %s\nOUTPUT_DIRECTORY = %s\nGENERATE_HTML = NO\nGENERATE_LATEX = NO\nGENERATE_XML = YES\nQUIET = YES\n' \
+        "$here/piecepick.h" "$work/doxygen" > "$work/Doxyfile"
+    faults=$(doxygen "$work/Doxyfile" 2>&1) || bad doxygen
+    [ -z "$faults" ] || { echo "$faults" >&2; bad doxygen; }
+fi
+
 # rust FOLDER: clippy over a crate and its tests. Nothing is linked, so an empty file stands for the library.
 rust() (
     : > "$work/libpiecepick.a"
