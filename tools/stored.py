@@ -133,7 +133,8 @@ def main() -> int:
                 different += 1
                 print(f"$ {line}\n  stored:\n{printed}\n  found:\n" + "\n".join(found_lines))
     wrong = at_fault(program.resolve())
-    print(f"{same} command lines print what is stored, {different} don't, {left_out} are left out; {len(SCRIPTS)} scripts at fault, {wrong} said wrong")
+    scripts = f"{len(SCRIPTS)} scripts at fault, {wrong} said wrong"
+    print(f"{same} command lines print what is stored, {different} don't, {left_out} are left out; {scripts}")
     different += wrong
     return 1 if different or not same else 0
 
