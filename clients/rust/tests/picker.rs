@@ -66,7 +66,7 @@ fn structs_are_those_of_c() {
     assert_eq!(size_of::<sys::piecepick_answer>(), 24);
     assert_eq!(size_of::<sys::piecepick_options>(), 40);
     assert_eq!(size_of::<sys::piecepick_digest>(), 20);
-    assert_eq!(piecepick::version(), 30_000);
+    assert_eq!(piecepick::version(), 10_000);
 }
 
 #[test]
