@@ -17,7 +17,7 @@ typedef struct {
     uint32_t piece, begin;
 } place;
 
-/* What the client keeps of a peer: its requests in flight, the oldest first. */
+/* What the client keeps of a peer: its requests in flight whose blocks haven't come from others, the oldest first. */
 typedef struct {
     place line[DEEPEST];
     uint32_t count;
@@ -29,6 +29,7 @@ static piecepick_answer answer;
 static piecepick_digest digest;
 static uint8_t block[BLOCK];
 static peer peers[PEERS];
+static uint8_t *askers; /* of each block: at how many peers it is in flight */
 static uint32_t pieces, depth, complete;
 static uint64_t asks, requests, arrivals, shown_by = 1, words = 2;
 
@@ -107,9 +108,21 @@ static place taken(peer *of, uint32_t index) {
     return found;
 }
 
-/* The oldest block that is in flight at the peer comes. */
+/* Takes the request of a block out of the peer's line, if it is there. */
+static void forget(peer *of, place came) {
+    for (uint32_t index = 0; index < of->count; index++) {
+        if (of->line[index].piece != came.piece || of->line[index].begin != came.begin) continue;
+        taken(of, index);
+        return;
+    }
+}
+
+/* The oldest block that is in flight at the peer comes. In endgame others wait for it no more. */
 static void oldest_comes(uint32_t worker) {
     place came = taken(&peers[worker], 0);
+    uint8_t *at = &askers[came.piece * (PIECE / BLOCK) + came.begin / BLOCK];
+    for (uint32_t other = 0; *at > 1 && other < PEERS; other++) forget(&peers[other], came);
+    *at = 0;
     well(piecepick_arrived(picker, worker, came.piece, came.begin, block, BLOCK, &answer));
     arrivals++;
     if (answer.kind != PIECEPICK_K_FULL) return;
@@ -117,28 +130,19 @@ static void oldest_comes(uint32_t worker) {
     complete++;
 }
 
-/* A cancel that is due takes its request out of the line. */
-static void cancel(peer *of, uint32_t piece, uint32_t begin) {
-    for (uint32_t index = 0; index < of->count; index++) {
-        if (of->line[index].piece != piece || of->line[index].begin != begin) continue;
-        taken(of, index);
-        return;
-    }
-}
-
-/* Asks what to request of the peer next, behind all cancels. */
+/* Queries for the peer, behind all cancels, whose requests are forgotten already. */
 static void ask(uint32_t worker) {
     peer *of = &peers[worker];
     for (;;) {
         well(piecepick_next(picker, worker, next_of(&words), &answer));
         asks++;
         if (answer.kind != PIECEPICK_K_CANCEL) break;
-        cancel(of, answer.piece, answer.begin);
     }
     of->unanswered = answer.kind != PIECEPICK_K_REQUEST;
     if (answer.kind == PIECEPICK_K_NOTHING_LEFT) of->active = 0;
     if (of->unanswered) return;
     of->line[of->count++] = (place){answer.piece, answer.begin};
+    askers[answer.piece * (PIECE / BLOCK) + answer.begin / BLOCK]++;
     requests++;
 }
 
@@ -152,16 +156,19 @@ int main(int count, char **arguments) {
     digest_of_zeros();
     open_picker(count > 3 ? (uint32_t)strtoul(arguments[3], NULL, 10) : 0);
     connect_all();
+    askers = calloc(pieces, PIECE / BLOCK);
+    if (!askers) return 1;
     double begin = now();
     for (uint32_t worker = 0; complete < pieces; worker = (worker + 1) % PEERS) {
         peer *of = &peers[worker];
         if (!of->active) continue;
         if (of->count > 0 && (of->count >= depth || of->unanswered)) oldest_comes(worker);
-        if (complete < pieces) ask(worker);
+        ask(worker);
     }
     double each = (now() - begin) / (double)asks;
     printf("asks %llu requests %llu arrivals %llu, %.0f ns an ask with its arrival\n", (unsigned long long)asks, (unsigned long long)requests,
            (unsigned long long)arrivals, each);
+    free(askers);
     piecepick_close(&picker);
     return 0;
 }
