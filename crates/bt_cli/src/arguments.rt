@@ -67,7 +67,7 @@ const STREAM: Argument = Argument {
 
 const OUT: Argument = Argument {
     name: "out",
-    help: "Writes the content to this file, if all pieces are had",
+    help: "Writes the content to this file, if all pieces are complete",
     kind: Kind::Text("FILE"),
     hidden: false,
 };
@@ -88,7 +88,7 @@ const WANT: Argument = Argument {
 
 const DEPTH: Argument = Argument {
     name: "depth",
-    help: "Asks for so many blocks of a peer at a time, 1 to 64",
+    help: "Requests so many blocks from a peer at a time, 1 to 64",
     kind: Kind::Number(Number {
         name: "N",
         least: 1,
@@ -100,7 +100,7 @@ const DEPTH: Argument = Argument {
 
 const RANDOM: Argument = Argument {
     name: "random",
-    help: "Picks pieces at random until so many are had, and then the rarest",
+    help: "Picks pieces at random until so many are complete, and then the rarest",
     kind: Kind::Number(Number {
         name: "N",
         least: 0,

@@ -3,31 +3,31 @@
 pub const SCRIPT: &str = "\
 Lines:
   torrent PIECE_LEN TOTAL WORKERS HASH..   the first line: lengths in bytes, and the SHA-1 of each piece
-  rules DEPTH RANDOM OPEN RUSH yes|no      if it is there, the next one: 1 to 64 blocks are asked of a peer at a time, and
-                                           pieces are picked at random until RANDOM are had, no more than there are;
-                                           the last three may be left out, from the end: so many pieces may be open, 0 to
-                                           1,024, which are begun and have an unrequested block, before begun ones come
-                                           first; in endgame a block is asked again only of a peer that is asked for fewer
-                                           than RUSH, 0 to 4,096; yes where endgame waits only for pieces that a joined
+  rules DEPTH RANDOM OPEN RUSH yes|no      if it is there, the next one: 1 to 64 blocks are requested from a peer at a time,
+                                           and pieces are picked at random until RANDOM are complete, no more than there
+                                           are; the last three may be left out, from the end: so many pieces may be open, 0
+                                           to 1,024, which are begun and have an unrequested block, before begun ones come
+                                           first; in endgame a block is requested again only from a peer with fewer than
+                                           RUSH requests, 0 to 4,096; yes where endgame waits only for pieces that a joined
                                            peer shows, no where it waits for all wanted ones;
                                            else it is `rules 5 1 0 4096 no`
   W join | W leave                         the peer of worker W has sent its handshake | is gone
   W bits HEX | W have P                    it shows the pieces of this bitfield | piece P
   W choke | W unchoke                      it chokes us | no longer
-  W next WORD                              what to say to it next; WORD settles what is left to chance
+  W next WORD                              queries what to send to it next; WORD settles what is left to chance
   W block P BEGIN HEX                      a block of piece P came, which begins at byte BEGIN of it
   W settle P                               checks piece P
   W want HEX                               just the pieces of this bitfield are to be downloaded, and have level 4;
                                            until such a line, or one of levels, all are
   W haves HEX                              it has the pieces of this bitfield too, whenever it says so
-  W lack P                                 it has piece P no more, and is asked no more for blocks of it
-  W depth N                                from now on it may be asked for N blocks at a time, 1 to 64
-  W reach L                                it is asked for blocks of level L, 0 to 7, and lower ones alone; 7 as it joins
-  W release P BEGIN                        it is asked no more for the block of piece P that begins at byte BEGIN
-  W late P BEGIN                           that request takes too long: it stays, and other peers may be asked for the block
+  W lack P                                 it has piece P no more, and its requests of that piece are released
+  W depth N                                from now on N blocks may be requested from it at a time, 1 to 64
+  W reach L                                it gets requests of level L, 0 to 7, and lower ones alone; 7 as it joins
+  W release P BEGIN                        the block of piece P at byte BEGIN is requested from it no more
+  W late P BEGIN                           that request takes too long: it stays, and others may get one for the block
   W alone yes | W alone no                 from now on it works alone | like the others, as when it joins; before endgame one
-                                           that works alone is asked only for pieces of which no other peer brought a block, or
-                                           is expected to; once begun, such a piece is asked of no other, unless it chokes us
+                                           that works alone gets requests only of pieces of which no other peer brought a
+                                           block, or is expected to; no other gets one of such a piece, unless it chokes us
   W level P L                              piece P has level L, 0 to 7: 0 isn't downloaded, and a higher level comes first
   W levels DIGITS                          each piece has the level of its digit, that of the first piece first
   W inorder yes | W inorder no             pieces of one level come in rising order | the rarest first, as at the start
@@ -36,21 +36,21 @@ Lines:
   Numbers are in base ten; workers count from 0, and there are 1 to 1024. An empty line says nothing.
 
 Replies, a line each:
-  joined | quiet                           the call is noted
-  noted yes | noted no                     noted; the peer shows a wanted piece that is lacking, or none
+  joined | quiet                           done
+  noted yes | noted no                     done; the peer shows a wanted piece that is lacking, or none
   cancel P BEGIN LEN                       tell the peer that this block is no longer wanted
-  request P BEGIN LEN                      ask the peer for this block
-  choked | pipefull                        the peer chokes us | is asked for all it may be
-  idle | nothing                           nothing to ask now | the peer shows nothing wanted that is lacking
-  stored | completed | dropped             the block is kept | is the last of its piece | was there before
-  had | failed                             the piece has its hash | hasn't, and is to be fetched again
+  request P BEGIN LEN                      request this block from the peer
+  choked | pipefull                        the peer chokes us | has as many requests as it may
+  idle | nothing                           nothing to request now | the peer shows nothing wanted that is lacking
+  stored | completed | dropped             the block is held | is the last of its piece, which is full | was held before
+  had | failed                             the piece is complete | has another hash, and is requested again
   refused N                                the call isn't allowed, and changes nothing:
     1 the peer hasn't joined               2 it has joined before
     3 a bitfield comes after another call  4 the bitfield, or the levels, aren't of so many pieces
     5 there is no such piece               6 no block begins there
     7 the block has another length         8 the piece doesn't wait for a check
     9 the piece has changed since it was hashed
-    10 the block isn't asked of the peer   11 the depth is 0, or more than may be told
+    10 the block isn't requested from it    11 the depth is 0, or more than may be set
     12 a level or a reach is above 7, or the level of inorderfrom is above 8
 
 Status: 0 the whole script was played; 2 `line N`, the first line at fault, counted from 1 (another form, a number
@@ -80,7 +80,7 @@ standard output fails; 5 `memory`, there isn't enough.
 
 pub const SERIAL: &str = "\
 Stream I is worker I of the journal, from 0; one more worker says first which pieces are wanted, if --want is given,
-and checks the pieces that are left at the end. The file of --out is made where all pieces are had, wanted or not.
+and checks the pieces that are left at the end. The file of --out is made where all pieces are complete, wanted or not.
 
 Prints, behind the journal:
   stream I end      the stream was played to its end
@@ -90,37 +90,37 @@ Prints, behind the journal:
     5 the stream can't be read              6 what is said to the peer can't be written
     7 there isn't enough memory             8 the bitfield isn't one of this torrent
   pieces N          how many there are
-  had N             how many were checked, and had their hash
-  missing P.. | -   the wanted pieces that aren't had
+  had N             how many are complete
+  missing P.. | -   the wanted pieces that aren't complete
   complete yes | no
   journal ok        each entry of the journal is one that the rules allow
   journal bad N     entry N isn't, counted from 0
 
-Status: 0 all wanted pieces are had; 1 not all; 2 wrong arguments, or one that isn't of META's torrent; 3 `metainfo
+Status: 0 all wanted pieces are complete; 1 not all; 2 wrong arguments, or one that isn't of META's torrent; 3 `metainfo
 fault N` (`piecepick info --help`); 4 `file fault`, META can't be read, a STREAM can't be opened, or FILE or standard
 output can't be written; 5 `memory`, there wasn't enough. A STREAM that is open and can't be read ends its own session,
 and the status is 0 or 1 as ever. Standard error names the file of each stream that was ended by a fault, and why.
 There are 1 to 64 streams, and FILE is none of them and not META. Not of META's torrent, the first of these:
   want fault 1      HEX isn't a byte for each eight pieces
-  want fault 2      a bit behind those of the pieces is set
+  want fault 2      a spare bit at the end is set
   random fault      there are fewer pieces than --random says";
 
 pub const RUN: &str = "\
 Each STREAM is played in a thread of its own, by worker I of one desk, from 0; --checkers threads check the pieces, and
-one more worker those that are left at the end. All pieces are wanted. In which order the workers call isn't told
-beforehand, so that another run may ask for other blocks. The file of --out is made where all pieces are had.
+one more worker those that are left at the end. All pieces are wanted. In which order the workers call isn't known
+beforehand, so another run may request other blocks. The file of --out is made where all pieces are complete.
 
 Prints:
   stream I end      the stream was played to its end
   stream I fault N  it was ended (`piecepick serial --help`)
   pieces N          how many there are
-  had N             how many were checked, and had their hash
-  missing P.. | -   the pieces that aren't had
+  had N             how many are complete
+  missing P.. | -   the pieces that aren't complete
   complete yes | no
   journal ok        each entry of the desk's journal is one that the rules allow
   journal bad N     entry N isn't, counted from 0
 
-Status: 0 all pieces are had; 1 not all; 2 wrong arguments, or `random fault`, there are fewer pieces than --random
+Status: 0 all pieces are complete; 1 not all; 2 wrong arguments, or `random fault`, there are fewer pieces than --random
 says; 3 `metainfo fault N` (`piecepick info --help`); 4 `file fault`, META can't be read, a STREAM can't be opened, or
 FILE or standard output can't be written; 5 `memory`, there wasn't enough, or `no thread`, one couldn't be started;
 6 `gather fault N`, what the workers noted isn't what the journal has, and nothing is printed. A STREAM that is open and
@@ -128,4 +128,4 @@ can't be read ends its own session, and the status is 0 or 1 as ever. Standard e
 was ended by a fault, and why. There are 1 to 64 streams, and FILE is none of them and not META. The first of these:
   gather fault 1    they noted another number of calls
   gather fault 2    a worker's calls aren't those that the journal has of it
-  gather fault 3    the pieces that were told as had aren't those of the journal";
+  gather fault 3    the pieces that were announced as complete aren't those of the journal";
