@@ -1,4 +1,4 @@
-/* A download from one peer, which has two pieces of zeros. README.md shows the marked lines (tools/excerpt.py). */
+/* A download from one peer, which has two pieces of zeros. README.md and docs/GUIDE.md show the marked lines (tools/excerpt.py). */
 #include "piecepick.h"
 #include <stdlib.h>
 #include <string.h>
