@@ -3,14 +3,15 @@
    which cancels to send, and which pieces are complete. Every call is proved to do what the picker's rules say, whatever its numbers are. The
    contracts are in crates/bt_c/src/exports.
 
-   In this file you query the picker (piecepick_next), and request blocks from peers. A block is held from its arrival on. A piece is full where
-   each of its blocks is held, and complete where they have been checked and have the hash of the metainfo file.
+   To query the picker is to call piecepick_next, and to request is to ask a peer for a block. A block is held from its arrival on. A piece is full
+   where each of its blocks is held, and complete where they have been checked and have the hash of the metainfo file.
 
-   A call returns a status, and writes its answer or its number in any case: kind 0, number 0 where the status isn't PIECEPICK_OK. A call whose
-   status isn't PIECEPICK_OK has changed nothing that a later call can tell, and may be made again. A journal alone gets one more entry where
-   piecepick_job_settle says STALE or NOT_WAITING: the refusal. Of several causes the call reports the first: statuses before refusals, each in the
-   order in which the call lists them. At piecepick_restore NOT_JOINED comes behind WORKER and before PIECE.
-   Lengths are in bytes.
+   A call returns a status, and writes its answer or its number in any case: kind 0, number 0 where the status isn't PIECEPICK_OK. A digest or a
+   buffer is written at PIECEPICK_OK alone. The last words in capitals of a call's comment are the statuses that it may return, without their
+   PIECEPICK_E_. Three of them may come of what a peer sent: at PIECE, BITS_LENGTH and SPARE_BITS let that peer go.
+   A call whose status isn't PIECEPICK_OK has changed nothing that a later call can tell, and may be made again. A journal alone gets one more entry
+   where piecepick_job_settle says STALE or NOT_WAITING: the refusal. Of several causes the call reports the first: statuses before refusals, each
+   in the order in which the call lists them. At piecepick_restore NOT_JOINED comes behind WORKER and before PIECE. Lengths are in bytes.
 
    The interface is that of version 1. PIECEPICK_ABI, the name of the shared object and the first number of the version rise together, and only
    where a caller has to be changed or compiled anew. A version whose second number rises may add calls, statuses, kinds, reasons and rules, and
@@ -92,15 +93,15 @@ typedef enum piecepick_status {
 /** What the picker answers. */
 typedef enum piecepick_kind {
     PIECEPICK_K_NONE = 0,        /**< no answer: the status isn't PIECEPICK_OK */
-    PIECEPICK_K_JOINED = 1,
-    PIECEPICK_K_NOTED = 2,
+    PIECEPICK_K_JOINED = 1,      /**< the peer is known by this worker number */
+    PIECEPICK_K_NOTED = 2,       /**< done; `interesting` says whether the peer shows a wanted piece that isn't complete */
     PIECEPICK_K_QUIET = 3,       /**< done; there is nothing to say */
     PIECEPICK_K_CANCEL = 4,      /**< to be sent as `cancel`: the block came from another peer */
     PIECEPICK_K_REQUEST = 5,     /**< to be sent as `request` */
     PIECEPICK_K_CHOKED = 6,      /**< nothing to request: the peer chokes us */
     PIECEPICK_K_PIPE_FULL = 7,   /**< nothing to request: as many blocks as may be are requested from the peer */
     PIECEPICK_K_IDLE = 8,        /**< nothing to request now, though the peer has a wanted piece that isn't complete */
-    PIECEPICK_K_NOTHING_LEFT = 9,/* the peer shows no wanted piece that isn't complete */
+    PIECEPICK_K_NOTHING_LEFT = 9,/**< the peer shows no wanted piece that isn't complete */
     PIECEPICK_K_STORED = 10,     /**< the block is held: where nothing is kept, write its bytes now */
     PIECEPICK_K_FULL = 11,       /**< the block is held, and its piece is full now: write the bytes too, and check the piece */
     PIECEPICK_K_DROPPED = 12,    /**< the block was held already: it came twice, and these bytes are written nowhere */
@@ -116,7 +117,7 @@ typedef enum piecepick_reason {
     PIECEPICK_R_LATE_BITS = 3,     /**< a bitfield must be a peer's first message: report it by piecepick_haves */
     PIECEPICK_R_WRONG_COUNT = 4, PIECEPICK_R_NO_SUCH_PIECE = 5, PIECEPICK_R_NO_SUCH_BLOCK = 6, PIECEPICK_R_WRONG_LENGTH = 7,
     PIECEPICK_R_NOT_WAITING = 8, PIECEPICK_R_STALE = 9,
-    PIECEPICK_R_NOT_REQUESTED = 10,/* the block isn't requested from this peer */
+    PIECEPICK_R_NOT_REQUESTED = 10,/**< the block isn't requested from this peer */
     PIECEPICK_R_WRONG_DEPTH = 11,  /**< a depth of 0, or beyond `deepest` */
     PIECEPICK_R_WRONG_LEVEL = 12   /**< a level or a reach above 7, or an order from a level above 8 */
 } piecepick_reason;
@@ -184,7 +185,8 @@ PIECEPICK_MUST piecepick_status piecepick_open_parts(piecepick_picker **picker, 
 /** Frees the picker, if there is one. The pointer is NULL then. */
 void piecepick_close(piecepick_picker **picker);
 
-/* What came on the wire from a worker's peer. WORKER; PIECE where there is no such piece; BITS_LENGTH and SPARE_BITS at the two with flags. MEMORY at
+/* What came on the wire from a worker's peer. WORKER; PIECE where there is no such piece; BITS_LENGTH and SPARE_BITS at piecepick_bits and
+   piecepick_haves. MEMORY at
    these two, at each call where a journal is kept, and at an arrival where its block is kept. No other of these calls returns it. */
 /** A peer is connected: it chokes us, and shows no piece yet. JOINED, or REFUSED by ALREADY_JOINED. */
 PIECEPICK_MUST piecepick_status piecepick_join(piecepick_picker *picker, uint32_t worker, piecepick_answer *answer);
@@ -235,14 +237,14 @@ PIECEPICK_MUST piecepick_status piecepick_reach(piecepick_picker *picker, uint32
    where it gets slow, and where it is IDLE with nothing in flight. What is requested stays so. QUIET, or REFUSED by NOT_JOINED. */
 PIECEPICK_MUST piecepick_status piecepick_alone(piecepick_picker *picker, uint32_t worker, uint32_t yes, piecepick_answer *answer);
 /** What to send to the peer next: send what it answers while it is CANCEL or REQUEST. Else CHOKED, PIPE_FULL, IDLE or NOTHING_LEFT, or REFUSED by
-   NOT_JOINED. The word is the caller's randomness, which settles what the rules leave open. Any generator will do, and 0 is allowed. */
+   NOT_JOINED. The word is a random number, which decides between blocks that the rules treat alike. Any generator will do, and 0 is allowed. */
 PIECEPICK_MUST piecepick_status piecepick_next(piecepick_picker *picker, uint32_t worker, uint64_t word, piecepick_answer *answer);
 
 /** What is to be downloaded, for all peers. What is requested stays so. Just these pieces, spelled as in a `bitfield` message; they have level 4
    then. QUIET. BITS_LENGTH, SPARE_BITS, MEMORY. */
 PIECEPICK_MUST piecepick_status piecepick_want(piecepick_picker *picker, const uint8_t *flags, size_t flags_len, piecepick_answer *answer);
 /** The piece has this level from now on: 0 isn't downloaded, and of 1 to 7 a higher one comes before a lower one. Each piece has level 4 until
-   another is set. QUIET, or REFUSED by WRONG_LEVEL. PIECE; at all four MEMORY where a journal is kept. */
+   another is set. QUIET, or REFUSED by WRONG_LEVEL. PIECE; MEMORY at this call and the next three, where a journal is kept. */
 PIECEPICK_MUST piecepick_status piecepick_set_level(piecepick_picker *picker, uint32_t piece, uint32_t level, piecepick_answer *answer);
 /** The same for each piece, a byte each. QUIET, or REFUSED by WRONG_COUNT or WRONG_LEVEL. */
 PIECEPICK_MUST piecepick_status piecepick_set_levels(piecepick_picker *picker, const uint8_t *levels, size_t levels_len, piecepick_answer *answer);
@@ -328,7 +330,7 @@ PIECEPICK_MUST piecepick_status piecepick_askers(piecepick_picker *picker, uint3
 /** Whether the worker's peer shows a wanted piece that isn't complete, so that we are interested in it (BEP 3); 0 where no peer has joined. It may
    change when a piece becomes complete or is lost, and when levels are set. WORKER. */
 PIECEPICK_MUST piecepick_status piecepick_is_interesting(piecepick_picker *picker, uint32_t worker, uint32_t *number);
-/** How many blocks are requested from the worker's peer. WORKER. */
+/** How many blocks are requested from the worker's peer, late ones too. WORKER. */
 PIECEPICK_MUST piecepick_status piecepick_outstanding(piecepick_picker *picker, uint32_t worker, uint32_t *number);
 /** One of these blocks by its place from 0, the oldest request first, as a REQUEST. Where a request ends, those behind it move one place forward:
    who releases several goes from the last place to the first. WORKER, PLACE. */
@@ -357,8 +359,8 @@ PIECEPICK_MUST piecepick_status piecepick_file_part_length(piecepick_picker *pic
    LENGTH. */
 PIECEPICK_MUST piecepick_status piecepick_file_part(piecepick_picker *picker, uint64_t file, uint64_t part, uint8_t *buffer, size_t buffer_len);
 
-/** The SHA-1 of one message, for a client that hashes. It needs no picker, takes no memory, and may be called by several threads at once. So is
-   the next one. */
+/** The SHA-1 of one message, for a client that hashes. It needs no picker, takes no memory, and may be called by several threads at once. The
+   same holds of the next one. */
 void piecepick_hash(const uint8_t *message, size_t message_len, piecepick_digest *digest);
 /** The SHA-1 of each of four messages, one digest behind the other, into a buffer of 80 bytes (LENGTH). Messages of one length are hashed side by
    side, at more than twice the speed. */

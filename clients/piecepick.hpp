@@ -1,5 +1,6 @@
 /* piecepick.hpp: piecepick.h for C++17. A call that does nothing throws an Error with its status. That is an exception and no error code since
-   refusals come as answers: a status is a mistake of the caller, or want of memory, and a client's loop meets none.
+   refusals come as answers: a status is a mistake of the caller, or want of memory. Three may come of what a peer sent: catch the Error of `bits`,
+   `haves`, `have`, `lack`, `arrived`, `release` and `late`, and at PIECE, BITS_LENGTH and SPARE_BITS let that peer go.
 
    What piecepick.h says of its calls holds here too: one call at a time at each picker and each job, also of those that change nothing. So
    none of them is const. */

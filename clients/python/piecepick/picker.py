@@ -518,7 +518,7 @@ class Picker:
 
     @property
     def is_in_order(self) -> bool:
-        """Whether the pieces of one level come in rising order, whichever level that is."""
+        """Whether all pieces come in rising order."""
         return bool(self._count(LIBRARY.piecepick_is_in_order))
 
     @property
@@ -532,7 +532,7 @@ class Picker:
         return self._long_count(LIBRARY.piecepick_epoch)
 
     def has_piece(self, piece: int) -> bool:
-        """Whether the piece was found right."""
+        """Whether the piece is complete."""
         return bool(self._count(LIBRARY.piecepick_has_piece, _u32(piece)))
 
     def is_waiting(self, piece: int) -> bool:
@@ -572,7 +572,7 @@ class Picker:
         return bool(self._count(LIBRARY.piecepick_is_interesting, _u32(worker)))
 
     def outstanding(self, worker: int) -> int:
-        """How many blocks are requested from the worker's peer."""
+        """How many blocks are requested from the worker's peer, late ones too."""
         return self._count(LIBRARY.piecepick_outstanding, _u32(worker))
 
     def outstanding_at(self, worker: int, place: int) -> Answer:

@@ -16,6 +16,7 @@ pub struct Block {
 
 /// What the picker answers.
 #[derive(Clone, Copy, Debug, PartialEq, Eq)]
+#[non_exhaustive]
 pub enum Answer {
     /// The worker's peer is there.
     Joined,
@@ -55,6 +56,7 @@ pub enum Answer {
 /// An [`Answer`] without what it carries.
 #[derive(Clone, Copy, Debug, PartialEq, Eq, Hash)]
 #[allow(missing_docs)]
+#[non_exhaustive]
 pub enum Kind {
     Joined,
     Noted,
@@ -75,6 +77,7 @@ pub enum Kind {
 
 /// Why a rule refused a call.
 #[derive(Clone, Copy, Debug, PartialEq, Eq, Hash)]
+#[non_exhaustive]
 pub enum Reason {
     /// The worker hasn't joined.
     NotJoined,
@@ -144,6 +147,7 @@ impl fmt::Display for Reason {
 
 /// The rule by which a block was requested: [`rule`](crate::Picker::rule) says it.
 #[derive(Clone, Copy, Debug, PartialEq, Eq, Hash)]
+#[non_exhaustive]
 pub enum PickRule {
     /// Pieces of its level come in rising order, begun or not.
     InOrder,

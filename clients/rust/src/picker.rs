@@ -275,7 +275,7 @@ impl Picker {
         self.sure(|picker, number| unsafe { sys::piecepick_has_wanted(picker, number) }) == 1
     }
 
-    /// Whether the pieces of one level come in rising order, whichever level that is.
+    /// Whether all pieces come in rising order.
     pub fn is_in_order(&self) -> bool {
         self.sure(|picker, number| unsafe { sys::piecepick_is_in_order(picker, number) }) == 1
     }
@@ -344,7 +344,7 @@ impl Picker {
         Ok(self.number(|picker, number| unsafe { sys::piecepick_is_interesting(picker, worker, number) })? == 1)
     }
 
-    /// How many blocks are requested from the worker's peer.
+    /// How many blocks are requested from the worker's peer, late ones too.
     pub fn outstanding(&self, worker: u32) -> Result<u32, Error> {
         self.number(|picker, number| unsafe { sys::piecepick_outstanding(picker, worker, number) })
     }
