@@ -39,7 +39,9 @@ pub use failure::{Failure, WRONG_ARGUMENTS, conclude, graver};
 pub use file::OutFile;
 pub use in_file::InFile;
 pub use options::Options;
-pub use road::{Came, CameTogether, Done, files_of, info_of, script_of, serial_of, text_of, threads_of};
+pub use road::{
+    Came, CameTogether, Done, files_of, info_of, script_of, serial_of, text_of, threads_of,
+};
 pub use same::is_input;
 pub use saving::{NewFile, save};
 pub use serial::{Run, play_streams};

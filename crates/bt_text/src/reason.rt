@@ -1,6 +1,6 @@
 //! What is wrong with a line of a script, in words.
 
-use crate::script::{Line, LineFault, Setup, fields, first_line, hex_digest, is, line_at, lines};
+use crate::script::{Line, LineFault, Setup, first_line, hex_digest, is, line_at, lines, words_of};
 use std::alloc::Global;
 use std::fmt;
 
@@ -126,7 +126,7 @@ fn reason_of<'a>(
 
 /// Why the first line opens no desk.
 fn reason_of_first<'a>(alloc: Global, text: &[u8]) -> Option<LineReason<'a>> {
-    let words = fields(alloc, text).ok()?;
+    let words = words_of(alloc, text).ok()?;
     for place in HASHES..words.len() {
         if hex_digest(words[place]).is_err() {
             return Some(LineReason::NoHash(place - HASHES + 1));
@@ -137,7 +137,7 @@ fn reason_of_first<'a>(alloc: Global, text: &[u8]) -> Option<LineReason<'a>> {
 
 /// Why a text isn't a line of a script.
 fn reason_of_form(alloc: Global, text: &[u8]) -> Option<LineReason<'_>> {
-    let words = fields(alloc, text).ok()?;
+    let words = words_of(alloc, text).ok()?;
     let [_, word, ..] = words.as_slice() else {
         return Some(LineReason::NoLine);
     };

@@ -22,7 +22,7 @@ use bt_meta::{DeviceFault, Sink};
 pub use bt_picker::MOST_DEPTH;
 use bt_picker::{MOST_WORKERS, Rules};
 pub use fault::LineFault;
-pub use fields::{fields, hex_digest, is, read_hex};
+pub use fields::{hex_digest, is, read_hex, words_of};
 pub use line::{Command, Line};
 pub use player::Player;
 use rules::read_rules;

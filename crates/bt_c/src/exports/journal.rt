@@ -14,7 +14,12 @@ use crate::picker_handle::PickerHandle;
 use std::alloc::Global;
 
 /// Writes the piece into the buffer, if it is had.
-fn read(alloc: Global, picker: &mut PickerHandle, piece: u32, buffer: &mut [u8]) -> Result<(), Fault>
+fn read(
+    alloc: Global,
+    picker: &mut PickerHandle,
+    piece: u32,
+    buffer: &mut [u8],
+) -> Result<(), Fault>
     ensures same { picker.new.held ≡ picker.old.held }
     ensures shut { picker.old.held ≡ None → buffer.new ≡ buffer.old }
     ensures reads { AtOpen (λ h o. Reads h piece buffer.old buffer.new o) picker.old.held result }

@@ -16,6 +16,13 @@ pub fn fields(alloc: Global, line: &[u8]) -> Result<Vec<&[u8]>, AllocError>
     line.split(|byte| *byte == b' ').collect(alloc)
 }
 
+/// The same for whoever has no module of this name beside it.
+pub fn words_of(alloc: Global, line: &[u8]) -> Result<Vec<&[u8]>, AllocError>
+    ensures { IfOk result (λ v. map (λ x. x.now) v.items ≡ fields_of line.now) }
+{
+    fields(alloc, line)
+}
+
 /// The number that digits write, and nothing but digits, within 64 bits.
 pub fn number(text: &[u8]) -> Result<u64, LineFault>
     ensures { Reads (λ n. n) result (number_in text.now) }
