@@ -351,7 +351,7 @@ PIECEPICK_MUST piecepick_status piecepick_piece_hash(piecepick_picker *picker, u
 PIECEPICK_MUST piecepick_status piecepick_files(piecepick_picker *picker, uint64_t *number);
 /** The file's bytes. FILE. */
 PIECEPICK_MUST piecepick_status piecepick_file_length(piecepick_picker *picker, uint64_t file, uint64_t *number);
-/** How many names are on the file's path. The first one is the torrent's own name: the folder, or the file itself where there is one. FILE. */
+/** How many names are on the file's path. The first one is the torrent's name: that of the folder, or of the file where the torrent is a single file. FILE. */
 PIECEPICK_MUST piecepick_status piecepick_file_parts(piecepick_picker *picker, uint64_t file, uint64_t *number);
 /** The bytes of a name on the file's path. FILE, PART. */
 PIECEPICK_MUST piecepick_status piecepick_file_part_length(piecepick_picker *picker, uint64_t file, uint64_t part, uint64_t *number);
