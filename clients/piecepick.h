@@ -42,7 +42,7 @@ extern "C" {
 #define PIECEPICK_ABI 1u
 /** The version as a text. Its first number is that of the interface. */
 #define PIECEPICK_VERSION "1.0.0"
-/** As a number, to be compared with piecepick_version(). */
+/** The version as a number: compare it with piecepick_version(). */
 #define PIECEPICK_VERSION_NUMBER 10000u
 
 #if defined(__GNUC__) || defined(__clang__)
@@ -83,8 +83,8 @@ typedef enum piecepick_status {
     PIECEPICK_E_BEGUN = 20,       /**< the piece is complete, or a block of it is held or requested */
     PIECEPICK_E_FILE = 21,        /**< no such file */
     PIECEPICK_E_PART = 22,        /**< no such name on the file's path */
-    /** At open, 100 and more: why the bytes are no metainfo file, or the parts no torrent. Reading is strict: keys that aren't sorted, and bytes
-       behind the end, are BENCODE. piecepick_open_parts takes what another parser has read. */
+    /** Numbers above 100 come from the two open calls: the bytes are no metainfo file, or the parts make no torrent. Reading is strict: unsorted
+       keys, and bytes behind the end, give BENCODE. piecepick_open_parts takes what another parser has read. */
     PIECEPICK_E_BENCODE = 101, PIECEPICK_E_NOT_DICTIONARY = 102, PIECEPICK_E_MISSING_KEY = 103, PIECEPICK_E_WRONG_KIND = 104,
     PIECEPICK_E_PIECE_LENGTH = 105, PIECEPICK_E_PIECES_LENGTH = 106, PIECEPICK_E_LENGTH_AND_FILES = 107, PIECEPICK_E_NO_CONTENT = 108,
     PIECEPICK_E_COUNT_MISMATCH = 109, PIECEPICK_E_TOO_LARGE = 110
@@ -251,8 +251,8 @@ PIECEPICK_MUST piecepick_status piecepick_set_levels(piecepick_picker *picker, c
 /** The pieces of one level come in rising order from now on; or, where `rising` is 0, the rarest first again. QUIET. */
 PIECEPICK_MUST piecepick_status piecepick_set_in_order(piecepick_picker *picker, uint32_t rising, piecepick_answer *answer);
 /** Pieces of this level and of higher ones come in rising order from now on, and those of lower levels the rarest first. With 0 all come in
-   order, with 8 none. So a window before a reader comes in order, and the rest stays rarest first. It takes the place of what
-   piecepick_set_in_order set, and the other way round: that one sets 0, or 8 where `rising` is 0. QUIET, or REFUSED by WRONG_LEVEL. */
+   order, with 8 none. So a window ahead of a reader comes in order, and the rest stays rarest first. Of this call and piecepick_set_in_order the
+   later one holds: that one is the same as 0 here, or as 8 where `rising` is 0. QUIET, or REFUSED by WRONG_LEVEL. */
 PIECEPICK_MUST piecepick_status piecepick_set_in_order_from(piecepick_picker *picker, uint32_t level, piecepick_answer *answer);
 
 /** The piece is gone from where you keep it: a file was deleted, or a check of the disk found other bytes. It isn't complete any more, and all of
@@ -312,9 +312,9 @@ PIECEPICK_MUST piecepick_status piecepick_is_waiting(piecepick_picker *picker, u
 PIECEPICK_MUST piecepick_status piecepick_level(piecepick_picker *picker, uint32_t piece, uint32_t *number);
 /** How many joined peers show the piece. PIECE. */
 PIECEPICK_MUST piecepick_status piecepick_availability(piecepick_picker *picker, uint32_t piece, uint32_t *number);
-/** The piece's bytes. PIECE. */
+/** The piece's length. PIECE. */
 PIECEPICK_MUST piecepick_status piecepick_piece_length(piecepick_picker *picker, uint32_t piece, uint32_t *number);
-/** The piece's blocks. PIECE. */
+/** How many blocks the piece has. PIECE. */
 PIECEPICK_MUST piecepick_status piecepick_blocks(piecepick_picker *picker, uint32_t piece, uint32_t *number);
 /** The worker whose peer brought a block that is held; `index` counts the piece's blocks from 0. PIECE, BLOCK, NOT_HELD. Call it for a
    piece whose bytes have another hash, before it is settled: compare with piecepick_piece_hash, and where a job has the verdict by its settle alone,
@@ -337,9 +337,9 @@ PIECEPICK_MUST piecepick_status piecepick_outstanding(piecepick_picker *picker, 
 PIECEPICK_MUST piecepick_status piecepick_outstanding_at(piecepick_picker *picker, uint32_t worker, uint32_t place, piecepick_answer *answer);
 
 /* What the metainfo file says, so that nobody reads it twice. */
-/** The bytes of the content. */
+/** The content's length. */
 PIECEPICK_MUST piecepick_status piecepick_total(piecepick_picker *picker, uint64_t *number);
-/** The bytes of the name. */
+/** The name's length. */
 PIECEPICK_MUST piecepick_status piecepick_name_length(piecepick_picker *picker, uint64_t *number);
 /** The name, which is a suggestion, and perhaps no text. LENGTH. */
 PIECEPICK_MUST piecepick_status piecepick_name(piecepick_picker *picker, uint8_t *buffer, size_t buffer_len);
@@ -349,11 +349,11 @@ PIECEPICK_MUST piecepick_status piecepick_infohash(piecepick_picker *picker, pie
 PIECEPICK_MUST piecepick_status piecepick_piece_hash(piecepick_picker *picker, uint32_t piece, piecepick_digest *digest);
 /** How many files there are, none where the picker was made of parts. The content is all of them, one behind the other, counted from 0. */
 PIECEPICK_MUST piecepick_status piecepick_files(piecepick_picker *picker, uint64_t *number);
-/** The file's bytes. FILE. */
+/** The file's length. FILE. */
 PIECEPICK_MUST piecepick_status piecepick_file_length(piecepick_picker *picker, uint64_t file, uint64_t *number);
 /** How many names are on the file's path. The first one is the torrent's name: that of the folder, or of the file where the torrent is a single file. FILE. */
 PIECEPICK_MUST piecepick_status piecepick_file_parts(piecepick_picker *picker, uint64_t file, uint64_t *number);
-/** The bytes of a name on the file's path. FILE, PART. */
+/** The length of a name on the file's path. FILE, PART. */
 PIECEPICK_MUST piecepick_status piecepick_file_part_length(piecepick_picker *picker, uint64_t file, uint64_t part, uint64_t *number);
 /** The name. It is whatever the metainfo file says: empty, "..", with slashes or zeros in it. Look at it before you make a path of it. FILE, PART,
    LENGTH. */
