@@ -1,11 +1,14 @@
 #!/usr/bin/env python3
 """Runs the downloader against real clients on this machine, and the same downloads by those clients.
 
-usage: downloads.py [NAME ..]        (--list names them; all of them where none is named)
+usage: downloads.py [--rounds N] [NAME ..]        (--list names them; all of them where none is named)
        downloads.py --picture FILE.svg
 
 It makes files and torrents in a directory of its own, and starts a small tracker, the seeders and the leechers. The content of each leecher is
-compared by SHA-1, file by file. The status is 0 where each download was well, and a player waited no longer than beside libtorrent.
+compared by SHA-1, file by file. Where others download the same, the medians of all rounds are compared.
+
+The status is 0 where each download was well and ours had at most 60 MB, took at most 1.05 of the time of the best other client, and let a player
+wait no longer than beside libtorrent.
 
 A line says who downloaded, how long it took until all was there, the most memory, and the bytes that came beyond one copy, as the leecher tells
 its tracker. Beside a player it says the seconds until the player was at the end, and how long the player stood still.
@@ -35,13 +38,17 @@ from fetch.dht.node import Node
 from fetch.tests.webservers import WebServer
 from others import (
     LOCAL, NETWORK, READY, START, Client, Content, Place, aria2, enter_network, fetch, free_port, libtorrent, libtorrent_peer, opentracker,
-    transmission,
+    transmission, transmission_by_link,
 )  # fmt: skip
 
-LONGEST = 150.0  # seconds of one download
+LONGEST = 240.0  # seconds of one download
+MOST_MEMORY = 60.0  # megabytes of ours
+MOST_TIME = 1.05  # of the best other client's seconds
+BEST_OF = ("aria2", "transmission", "libtorrent")
+NODES = 9  # of the DHT beside the clients: transmission takes a smaller one for a broken one
 PIECE_LENGTH = 1 << 18
 MEGABYTE = 1000000
-LEECHERS = ("fetch", "aria2", "transmission")
+LEECHERS = ("fetch", "aria2", "transmission", "libtorrent")
 METERED = ("--seed-minutes", "10", "--meter")
 
 # The trial `player`.
@@ -319,6 +326,8 @@ def by_link(place: Place, who: str, first: str) -> Client:
     if who == "aria2":
         words = ("--enable-dht=true", f"--dht-entry-point={first}", "--seed-time=0", f"--dht-file-path={place.folder / 'aria2.dat'}")
         return aria2(place, False, words=words, torrent=link)
+    if who == "transmission":
+        return transmission_by_link(place, link, first)
     return libtorrent_peer(place, False, ("--node", first), torrent=link)
 
 
@@ -328,7 +337,8 @@ def by_magnet(place: Place, who: str) -> Outcome:
     at = place.address()
     first = f"{at[0]}:{at[1]}"
     for number in range(3):
-        libtorrent_peer(place, True, ("--node", first, "--up", "4000"), at=at if number == 0 else None)
+        words = ("--node", first, "--up", "4000", "--nodes", str(NODES if number == 0 else 0))
+        libtorrent_peer(place, True, words, at=at if number == 0 else None)
     wait_announced(place, first, 3)
     return ended(place, [by_link(place, who, first)])
 
@@ -347,11 +357,16 @@ def exchanged(place: Place, who: str) -> Outcome:
     seeder = libtorrent_peer(place, True, ("--up", "1000", "--exchange"))
     place.tracker.only = (seeder.host, seeder.port)
     place.wait_ready(seeder)
-    if who == "fetch":
-        leechers = [fetch(place, False) for _ in range(5)]
-    else:
-        leechers = [aria2(place, False, words=("--enable-peer-exchange=true",)) for _ in range(5)]
-    return finish(place, leechers)
+    return finish(place, [exchanging(place, who) for _ in range(5)])
+
+
+def exchanging(place: Place, who: str) -> Client:
+    """A leecher that tells others of its peers."""
+    if who == "aria2":
+        return aria2(place, False, words=("--enable-peer-exchange=true",))
+    if who == "transmission":
+        return transmission(place, False, exchanges=True)
+    return START[who](place, False)  # ours and libtorrent do so by themselves
 
 
 def by_web(place: Place, who: str) -> Outcome:
@@ -376,13 +391,12 @@ def by_web(place: Place, who: str) -> Outcome:
 
 FOLDER = {f"{number % 7}/file {number}": 1 + number * number * 37 for number in range(200)} | {"large": 20 * MEGABYTE}
 ONE = ("fetch",)
-BY_LINK = ("fetch", "aria2", "libtorrent")
 TRIALS: dict[str, tuple[Callable[[Place, str], Outcome], tuple[str, ...], dict[str, int], int]] = {  # who downloads; files; piece length
     "transmission": (one_seeder("transmission"), ONE, {"": 24 * MEGABYTE}, PIECE_LENGTH),
     "qbittorrent": (one_seeder("qbittorrent"), ONE, {"": 200 * MEGABYTE}, PIECE_LENGTH),
     "rtorrent": (one_seeder("rtorrent"), ONE, {"": 200 * MEGABYTE}, PIECE_LENGTH),
     "aria2": (one_seeder("aria2"), LEECHERS, {"": 200 * MEGABYTE}, PIECE_LENGTH),
-    "giving": (one_seeder("fetch"), ("fetch", "aria2", "transmission", "qbittorrent", "rtorrent"), {"": 200 * MEGABYTE}, PIECE_LENGTH),
+    "giving": (one_seeder("fetch"), (*LEECHERS, "qbittorrent", "rtorrent"), {"": 200 * MEGABYTE}, PIECE_LENGTH),
     "three": (three, ONE, {"": 48 * MEGABYTE}, PIECE_LENGTH),
     "killed": (killed, ONE, {"": 32 * MEGABYTE}, PIECE_LENGTH),
     "slow": (slow, LEECHERS, {"": 24 * MEGABYTE}, PIECE_LENGTH),
@@ -392,26 +406,41 @@ TRIALS: dict[str, tuple[Callable[[Place, str], Outcome], tuple[str, ...], dict[s
     "by http": (by_opentracker("http"), ONE, {"": 24 * MEGABYTE}, PIECE_LENGTH),
     "swarm": (swarm, LEECHERS, {"": 30 * MEGABYTE}, PIECE_LENGTH),
     "mixed": (mixed, ONE, {"": 30 * MEGABYTE}, PIECE_LENGTH),
-    "magnet": (by_magnet, BY_LINK, {"": 48 * MEGABYTE}, PIECE_LENGTH),
-    "magnet given": (magnet_given, BY_LINK, {"": 48 * MEGABYTE}, PIECE_LENGTH),
-    "exchange": (exchanged, ("fetch", "aria2"), {"": 30 * MEGABYTE}, PIECE_LENGTH),
-    "web": (by_web, (*LEECHERS, "libtorrent"), {"": 200 * MEGABYTE}, PIECE_LENGTH),
+    "magnet": (by_magnet, LEECHERS, {"": 48 * MEGABYTE}, PIECE_LENGTH),
+    "magnet given": (magnet_given, ("fetch", "aria2", "libtorrent"), {"": 48 * MEGABYTE}, PIECE_LENGTH),
+    "exchange": (exchanged, LEECHERS, {"": 30 * MEGABYTE}, PIECE_LENGTH),
+    "web": (by_web, LEECHERS, {"": 200 * MEGABYTE}, PIECE_LENGTH),
     "player": (played, ("fetch", *PLAYERS) * 3, {"": 24 * MEGABYTE}, PIECE_LENGTH),
     "large": (one_seeder("aria2"), LEECHERS, {"": 1 << 32}, 1 << 20),
 }
 
 
-def run(name: str) -> bool:
-    """The downloads of one name, each with a line; whether all were well."""
+def run(name: str, rounds: int) -> bool:
+    """The downloads of one name, each with a line; whether all were well, and ours good enough."""
     trial, leechers, lengths, piece_length = TRIALS[name]
     outcomes = []
     with tempfile.TemporaryDirectory() as directory:
         content = Content(Path(directory), lengths, piece_length)
         content.make(name)
-        for who in leechers:
+        for who in leechers * rounds:
             outcomes.append(run_one(trial, who, content))
             print(outcomes[-1].line(name), flush=True)
-    return all(outcome.is_well for outcome in outcomes) and (trial is not played or waits_least(outcomes))
+    is_well = all(outcome.is_well and (outcome.who != "fetch" or outcome.megabytes <= MOST_MEMORY) for outcome in outcomes)
+    return all([is_well, trial is not played or waits_least(outcomes), len(set(leechers)) == 1 or is_quick(name, outcomes)])
+
+
+def is_quick(name: str, outcomes: list[Outcome]) -> bool:
+    """Whether ours took at most so much of the best other client's time. The medians count, of several leechers those of the last one."""
+    seconds: dict[str, list[float]] = {}
+    for outcome in outcomes:
+        seconds.setdefault(outcome.who, []).append(max(outcome.seconds))
+    medians = {who: statistics.median(times) for who, times in seconds.items()}
+    # The player's settings of libtorrent are two of its clients.
+    best = min(medians[who] for who in medians if who in (*BEST_OF, *PLAYERS))
+    ratio = medians["fetch"] / best
+    told = "  ".join(f"{who} {median:.1f} s" for who, median in medians.items())
+    print(f"{name:<13} medians  {told}  ours {ratio:.2f} of the best", flush=True)
+    return ratio <= MOST_TIME
 
 
 def run_one(trial: Callable[[Place, str], Outcome], who: str, content: Content) -> Outcome:
@@ -448,17 +477,20 @@ def picture(path: str) -> None:
 
 def main() -> int:
     """Runs the downloads that are named, or all."""
-    names = sys.argv[1:] or list(TRIALS)
+    names, rounds = sys.argv[1:], 1
     if names == ["--list"]:
         print("\n".join(TRIALS))
         return 0
+    if names[:1] == ["--rounds"]:
+        rounds, names = int(names[1]), names[2:]
+    names = names or list(TRIALS)
     enter_network()
     for number in (signal.SIGINT, signal.SIGTERM):
         signal.signal(number, signal.default_int_handler)  # so that what was started is ended
     if names[0] == "--picture":
         picture(names[1])
         return 0
-    return 0 if all([run(name) for name in names]) else 1
+    return 0 if all([run(name, rounds) for name in names]) else 1
 
 
 if __name__ == "__main__":
