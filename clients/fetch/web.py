@@ -3,6 +3,7 @@
 from __future__ import annotations
 
 import http.client
+import ssl
 import time
 import urllib.error
 import urllib.request
@@ -50,6 +51,15 @@ def _opener(source: str) -> urllib.request.OpenerDirector:
     return opener
 
 
+def reason_of(error: Exception) -> str:
+    """Why a connection or an answer came to nothing, for the user."""
+    if isinstance(error, ssl.SSLCertVerificationError):
+        return f"the certificate isn't trusted ({error.verify_message}): the environment's SSL_CERT_FILE may name other authorities"
+    if isinstance(error, ssl.SSLError):
+        return f"no HTTPS is spoken there ({error.reason or 'the connection ended'})"
+    return getattr(error, "strerror", None) or str(error) or type(error).__name__
+
+
 def is_address(text: str) -> bool:
     """Whether it is an address of the web."""
     return text.lower().startswith(SCHEMES)
@@ -72,8 +82,6 @@ def get(url: str, largest: int, seconds: float, source: str = "") -> bytes:
         with error:
             raise WebFault(f"the answer has status {error.code}") from error
     except urllib.error.URLError as error:
-        reason = error.reason
-        text = reason.strerror if isinstance(reason, OSError) and reason.strerror else str(reason)
-        raise WebFault(text) from error
+        raise WebFault(reason_of(error.reason) if isinstance(error.reason, Exception) else error.reason) from error
     except (OSError, http.client.HTTPException, ValueError) as error:
-        raise WebFault(str(error) or type(error).__name__) from error
+        raise WebFault(reason_of(error)) from error
