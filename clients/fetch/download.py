@@ -77,9 +77,9 @@ class Download:
         yield from self._run(source)
 
     def _run(self, source: Source) -> Iterator[State]:
-        self._transfer = transfer = self._transfer or Transfer(self.options, source.metainfo, self._reach)
-        for address, origin in source.peers:
-            transfer.parts.swarm.addresses.add(address, origin)
+        if self._transfer:
+            source.close()
+        self._transfer = transfer = self._transfer or Transfer.of(source, self.options, self._reach)
         try:
             transfer.prepare()
         except Interrupted:

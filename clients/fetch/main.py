@@ -31,6 +31,7 @@ def list_files(options: Options) -> None:
     with closing(Reach(options)) as reach, closing(Progress(options.quiet)) as progress:
         for torrent in (options.torrent, *options.more):
             source = obtain(options.of(torrent), reach, ends_in_order, progress.tell)
+            source.close()
             progress.end()
             print("\n".join([*([torrent] if options.more else []), *listing.lines(source.metainfo)]))
 

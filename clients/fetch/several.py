@@ -103,9 +103,7 @@ class Several:
 
     def _run(self, job: Job) -> Ended:
         source = obtain(job.options, self.reach, job.guard, lambda text: None)
-        download = job.download = Transfer(job.options, source.metainfo, self.reach, self.bounds)
-        for address, origin in source.peers:
-            download.parts.swarm.addresses.add(address, origin)
+        download = job.download = Transfer.of(source, job.options, self.reach, self.bounds)
         try:
             with job.guard(download.parts.swarm):
                 download.prepare()

@@ -16,7 +16,7 @@ from .magnet import Magnet
 from .metainfo import MetainfoFault, is_private, metainfo_of
 from .options import Options
 from .reach import Reach
-from .seeking import Seeker
+from .seeking import Met, Seeker
 from .tracker import Announce, Event
 
 LARGEST_FILE = 1 << 28  # bytes of a metainfo file
@@ -38,6 +38,12 @@ class Source:
 
     metainfo: bytes
     peers: list[tuple[Address, Origin]] = field(default_factory=list)
+    met: list[Met] = field(default_factory=list)  # those of them that are connected
+
+    def close(self) -> None:
+        """Nobody goes on with the connections."""
+        for met in self.met:
+            met.connection.close()
 
 
 class Following:
@@ -45,8 +51,8 @@ class Following:
 
     def __init__(self, link: Magnet, options: Options, reach: Reach) -> None:
         self.link, self.options = link, options
-        self.seeker = seeker = Seeker(link.infohash, new_peer_id(), options.bind)
         self.node = reach.node()
+        self.seeker = seeker = Seeker(link.infohash, new_peer_id(), options.bind, self.node is not None)
         trackers = [[url] for url in link.trackers] if options.asks_trackers else []
         seeker.announcer = Announcer(trackers, self._announce, seeker.wake, options.bind)
         self._search = self.node.search(link.infohash, 0, seeker.hear_of) if self.node else None
@@ -80,7 +86,7 @@ class Following:
         metainfo = metainfo_of(info, [[url] for url in self.link.trackers], self.link.web_seeds)
         origins = {Origin.USER, Origin.TRACKER} if is_private(metainfo) else set(Origin)
         known = self.seeker.addresses.known.values()
-        return Source(metainfo, [(peer.address, peer.origin) for peer in known if peer.origin in origins])
+        return Source(metainfo, [(peer.address, peer.origin) for peer in known if peer.origin in origins], self.seeker.give(origins))
 
     @property
     def line(self) -> str:

@@ -136,6 +136,18 @@ class Swarm:
         peer.is_web = True
         return peer
 
+    def take_over(self, connection: socket.socket, address: Address, heard: bytes) -> None:
+        """Goes on with a connection on which we have said who we are, and the peer has said this."""
+        if len(self.peers) >= self.limits.peers or self.addresses.is_banned(address):
+            connection.close()
+            return
+        if known := self.addresses.known.get(address):
+            known.is_in_use = True
+        peer = self._add(connection, address, is_incoming=False)
+        peer.is_connected = True
+        peer.unsent.clear()
+        self._hear(peer, heard)
+
     def _add(self, connection: socket.socket, address: Address, is_incoming: bool) -> Peer:
         peer = Peer(connection, address, is_incoming, Inbound(self.session.layout.pieces), self.session.now)
         self.peers.add(peer)
@@ -225,6 +237,10 @@ class Swarm:
             return
         peer.is_connected = True
         self.down.take(len(data))
+        self._hear(peer, data)
+
+    def _hear(self, peer: Peer, data: bytes) -> None:
+        """The peer has said this."""
         try:
             if not peer.is_joined:
                 handshake = peer.inbound.handshake(data)

@@ -132,6 +132,33 @@ class Assembled(unittest.TestCase):
         self.assertEqual((asking.unsent, asking.size), (metadata.spell(3, Word.REQUEST, 0), 5))
 
 
+class Heard(unittest.TestCase):
+    """What is kept of a peer's words, for who goes on with its connection."""
+
+    def test_kept(self) -> None:
+        """All but what is for the dictionary and other peers, with the message that isn't whole yet."""
+        asking = Asking(INFOHASH, b"-PP0000-abcdefghijkl", lambda size: True, lambda peers: None)
+        self.assertIsNone(asking.heard)
+        first = b"\x13BitTorrent protocol" + b"\0\0\0\0\0\x10\0\4" + INFOHASH + bytes(20)
+        hello = message(EXTENDED, data=b"\0d1:md11:ut_metadatai3ee13:metadata_sizei20000ee")
+        shown, begun = message(BITFIELD, data=b"\xf0") + message(UNCHOKE), b"\0\0\0\5\4\0"
+        asking.receive(first[:30])
+        asking.receive(first[30:] + hello)
+        asking.receive(message(EXTENDED, data=b"\2d8:msg_typei1e5:piecei0ee" + bytes(16384)) + shown + begun)
+        self.assertIsNone(asking.heard)  # what we say isn't said yet
+        asking.unsent.clear()
+        self.assertEqual(asking.heard, first + hello + shown + begun)
+
+    def test_bounded(self) -> None:
+        asking = Asking(INFOHASH, b"-PP0000-abcdefghijkl", lambda size: True, lambda peers: None)
+        asking.receive(b"\x13BitTorrent protocol" + b"\0\0\0\0\0\x10\0\0" + INFOHASH + bytes(20))
+        asking.unsent.clear()
+        for _ in range(100):
+            asking.receive(message(BITFIELD, data=bytes(1 << 13)))
+        self.assertIsNone(asking.heard)
+        self.assertLess(len(asking._heard), 1 << 19)
+
+
 class Room(unittest.TestCase):
     """How much may come at a time."""
 
@@ -259,8 +286,19 @@ class Followed(Downloading):
         self.assertEqual((self.out / "d").read_bytes(), CONTENT[100 + PIECE + 5000 :][: 20 * PIECE])
 
     def test_by_peer(self) -> None:
-        """A peer that the link names gives the dictionary, and the content."""
-        self.follow(f"&x.pe={self.info_peer().address}")
+        """A peer that the link names gives the dictionary, and by the same connection the content."""
+        peer = self.info_peer()
+        self.follow(f"&x.pe={peer.address}")
+        self.assert_whole()
+        self.assertEqual(peer.connections, 1)
+
+    def test_resumed(self) -> None:
+        """Where something is there, peers are to hear it in the first message, so there is a second connection."""
+        peer = self.info_peer()
+        self.follow(f"&x.pe={peer.address}", "--only", "5")
+        self.assertEqual(peer.connections, 1)
+        self.follow(f"&x.pe={peer.address}", "--only", "5,6")
+        self.assertEqual(peer.connections, 3)
         self.assert_whole()
 
     def test_by_tracker(self) -> None:
