@@ -69,6 +69,7 @@ class Session:
         self.asks: dict[tuple[int, int], int] = {}  # of how many peers each block is asked now
         self.figures = Figures()
         self.now = time.monotonic()
+        self.has_new_interest = False  # since the swarm looked
         self._hear: dict[int, Callable[[Peer, memoryview], None]] = {
             Message.CHOKE: self._choke, Message.UNCHOKE: self._unchoke, Message.INTERESTED: self._interested,
             Message.NOT_INTERESTED: self._not_interested, Message.HAVE: self._have, Message.BITFIELD: self._bitfield,
@@ -136,7 +137,7 @@ class Session:
 
     def _interested(self, peer: Peer, payload: memoryview) -> None:
         numbers_of(Message.INTERESTED, payload)
-        peer.interests_us = True
+        peer.interests_us = self.has_new_interest = True
 
     def _not_interested(self, peer: Peer, payload: memoryview) -> None:
         numbers_of(Message.NOT_INTERESTED, payload)

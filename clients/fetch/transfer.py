@@ -89,6 +89,8 @@ class Transfer:
             while self._met:
                 met = self._met.pop()
                 parts.swarm.take_over(met.connection, met.address, met.heard)
+        self.finding.tick(self.began)  # at once, and not behind the first wait of the loop
+        parts.swarm.connect()
 
     def _tell_check(self, done: int, pieces: int) -> None:
         """Shows how far the check at the start is. Raises Interrupted where the user ends it."""
