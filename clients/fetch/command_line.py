@@ -3,8 +3,10 @@
 from __future__ import annotations
 
 import argparse
+import ipaddress
 import re
 from collections.abc import Callable
+from contextlib import suppress
 from typing import Any, TypeVar
 
 from . import addresses
@@ -78,7 +80,9 @@ def _numbers(text: str) -> set[int]:
 @_told
 def _level(text: str) -> tuple[int, int]:
     """A file's number and its level: 2=7."""
-    number, _, level = text.partition("=")
+    number, sign, level = text.partition("=")
+    if not sign:
+        raise ValueError(f"{text!r} is no N=L: 2=7 gives file 2 the level 7")
     if _whole(level) > 7:
         raise ValueError(f"{level} is no level: 0 to 7 are")
     return _whole(number), _whole(level)
@@ -87,9 +91,24 @@ def _level(text: str) -> tuple[int, int]:
 @_told
 def _amount(text: str) -> float:
     """A number that isn't negative, perhaps with a fraction."""
-    if not 0 <= (number := float(text)) < 1e12:
-        raise ValueError(f"{text!r} is no amount")
-    return number
+    if not re.fullmatch(r"[0-9]{1,12}(\.[0-9]*)?|\.[0-9]+", text, re.ASCII):
+        raise ValueError(f"{text!r} is no number, such as 1.5")
+    return float(text)
+
+
+def _is_number(host: str) -> bool:
+    """Whether it is an address of IPv4 or IPv6, and not a name."""
+    with suppress(ValueError):
+        return bool(ipaddress.ip_address(host))
+    return False
+
+
+@_told
+def _own(text: str) -> str:
+    """An address of this machine, in numbers; empty for any."""
+    if text and not _is_number(text):
+        raise ValueError(f"{text!r} is no address in numbers, such as 192.0.2.7 or ::1")
+    return text
 
 
 _port, _count = _between(0, 65535), _between(0, 1 << 30)
@@ -115,7 +134,7 @@ def _add_swarm(parser: argparse.ArgumentParser) -> None:
     """With whom."""
     swarm = parser.add_argument_group("the swarm")
     swarm.add_argument("--port", type=_port, help="listen at this port; without it at 6881 to 6889, or at any")
-    swarm.add_argument("--bind", default="", metavar="ADDRESS", help="use this address of ours alone")
+    swarm.add_argument("--bind", type=_own, default="", metavar="ADDRESS", help="use this address of ours alone")
     swarm.add_argument("--no-listen", action="store_false", dest="listens", help="take no connections")
     swarm.add_argument("--peers", type=_peers, dest="most_peers", default=50, metavar="N", help="connections at most, 50 by default")
     swarm.add_argument("--slots", type=_count, default=4, metavar="N", help="peers that are uploaded to at a time, 4 by default; 0 uploads nothing")
@@ -179,10 +198,14 @@ def _sort(given: dict[str, Any]) -> None:
     for word in given.pop("words"):
         if _is_torrent(word):
             more.append(word)
-        elif given["out"] is None and not LIKE_ADDRESS.fullmatch(word):
+        elif LIKE_ADDRESS.fullmatch(word):
+            peers.append(addresses.parse(word))
+        elif _is_number(word):
+            raise ValueError(f"{word} has no port: HOST:PORT names a peer, and --out takes a name like this one")
+        elif given["out"] is None:
             given["out"] = word
         else:
-            peers.append(addresses.parse(word))
+            raise ValueError(f"{word!r} is neither a torrent nor a peer (HOST:PORT), and OUT is {given['out']!r} already")
     given |= {"out": given["out"] or "", "more": tuple(more), "peers": peers}
     if more:
         _refuse_single(given)
@@ -200,7 +223,7 @@ def read(words: list[str]) -> Options:
     parser = _parser()
     given = vars(parser.parse_intermixed_args(words))
     if given["torrent"] is None:
-        parser.error("TORRENT is missing: a metainfo file, its address, or a magnet link")
+        parser.error("TORRENT is missing: a metainfo file, its address, or a magnet link. --help lists all options")
     given["levels"] = dict(given.pop("level"))
     given["dht_nodes"] = tuple(given["dht_nodes"]) or FIRST_NODES
     try:

@@ -3,15 +3,18 @@
 from __future__ import annotations
 
 import queue
+from typing import TYPE_CHECKING
 
 from .addresses import Origin, is_loopback
 from .blame import Address
-from .dht.node import Node
-from .dht.talk import Search
-from .local import Announced, Local
 from .parts import Parts
 from .reach import Reach
 from .webseeds import WebSeeds
+
+if TYPE_CHECKING:
+    from .dht.node import Node
+    from .dht.talk import Search
+    from .local import Announced, Local
 
 
 class Finding:

@@ -5,7 +5,7 @@ from __future__ import annotations
 import os
 import time
 from collections.abc import Iterable
-from typing import Any
+from typing import TYPE_CHECKING, Any
 
 from .addresses import Origin, looked_up
 from .choosing import Chooser
@@ -22,10 +22,12 @@ from .place import PART_SUFFIX
 from .progress import Progress, State, line, size
 from .reach import Reach
 from .recorder import Recorder
-from .seeking import Met
-from .serving import Gate, Server, Urgent
 from .source import Source
 from .watch import Watch
+
+if TYPE_CHECKING:
+    from .seeking import Met
+    from .serving import Server
 
 SAVE_SECONDS = 2.0
 STATE_SECONDS = 0.25  # between two looks at how far it is
@@ -100,6 +102,8 @@ class Transfer:
 
     def _serve(self, port: int) -> None:
         """Lets players read. Raises ValueError where the port can't be had."""
+        from .serving import Gate, Server, Urgent  # here, so that all others start sooner
+
         gate = Gate(self.parts.content, self.parts.swarm.wake)
         try:
             self.server = Server(port, gate)

@@ -67,7 +67,7 @@ class Single(Contact):
         while not Path(f"{self.out}.part").exists() and time.monotonic() < deadline:
             time.sleep(0.02)
         self.run_in("torrent", "out", status=4)
-        self.assertIn("another run of this program", self.errors)
+        self.assertIn("downloaded already, by this run or another one", self.errors)
         self.assertIsNone(first.poll())
         first.kill()
         first.communicate()
