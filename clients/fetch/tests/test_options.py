@@ -29,9 +29,11 @@ class Read(unittest.TestCase):
             ("", "TORRENT is missing"),
             ("a.torrent out 1.2.3.4", "1.2.3.4 has no port"), ("a.torrent one two", "OUT is 'one' already"),
             ("a.torrent 1.2.3.4:99999", "no address"), ("--port 65536 a.torrent out", "65535"),
-            ("--level 1=8 a.torrent out", "no level"), ("--level 1 a.torrent out", "2=7 gives file 2"), ("--only 3-1 a.torrent out", "names no files"),
+            ("--level 1=8 a.torrent out", "no level"), ("--level 1 a.torrent out", "2=7 gives file 2"),
+            ("--only 3-1 a.torrent out", "names no files"),
             ("--only 1-99999999999 a.torrent out", "names no files"), ("--peers 0 a.torrent out", "1 to 500"), ("--up -1 a.torrent out", "--up"),
-            ("--seed nan a.torrent out", "no number"), ("--seed x a.torrent out", "no number"), ("--bind here a.torrent out", "no address in numbers"),
+            ("--seed nan a.torrent out", "no number"), ("--seed x a.torrent out", "no number"),
+            ("--bind here a.torrent out", "no address in numbers"),
             ("--nonsense a.torrent out", "--nonsense"),
         ):  # fmt: skip
             errors = io.StringIO()
