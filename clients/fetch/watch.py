@@ -81,10 +81,11 @@ def line_of(peer: Peer, number: int, pieces: int, now: float) -> str:
     return paint("■ ", COLOURS[number % len(COLOURS)]) + text + numbers({piece for piece, _ in peer.asked})
 
 
+# Two lines, or three on a narrow terminal.
 LEGEND = (
-    "█ complete  ▒ asked of the peer with that colour  3 so many peers show it  ! nobody has it",
-    "state: c chokes us, i we are interested, C we choke it, I it is interested.  f lists the files, q ends",
-)
+    "keys: f lists the files, q ends", "█ complete", "▒ asked of the peer with that colour", "3 so many peers show it", "! nobody has it",
+    "state: c chokes us", "i we are interested", "C we choke it", "I it is interested",
+)  # fmt: skip
 HEAD = "  peer                  prog  has        down          up   asked  state pieces that are asked for"
 
 
@@ -97,8 +98,19 @@ def screen(session: Session, head: str, width: int, height: int) -> list[str]:
     lines += ["".join(cells[at : at + width]) for at in range(0, len(cells), width)]
     lines += ["", HEAD[:width]]
     lines += [clip(line_of(peer, number, session.layout.pieces, session.now), width) for number, peer in enumerate(peers)]
-    legend = [paint(line[:width], GREY) for line in LEGEND]
+    legend = [paint(line[:width], GREY) for line in filled(LEGEND, width)]
     return [*lines[: max(0, height - 2 - len(legend))], "", *legend][: height - 1]
+
+
+def filled(parts: Sequence[str], width: int) -> list[str]:
+    """The parts in as few lines as there is room for; none is cut in two."""
+    lines = [parts[0]]
+    for part in parts[1:]:
+        if len(lines[-1]) + 2 + len(part) <= width:
+            lines[-1] += "  " + part
+        else:
+            lines.append(part)
+    return lines
 
 
 def clip(line: str, width: int) -> str:

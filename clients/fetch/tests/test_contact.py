@@ -144,6 +144,10 @@ class Told(unittest.TestCase):
         self.assertEqual(told(ending)[0], "a?[2J: 25.0% of 4 B are there; the same command goes on with it")
         self.assertIn("HOST:PORT", told(ending)[1])
 
+    def test_unwanted(self) -> None:
+        """All files may be left out while it runs."""
+        self.assertEqual(told(Ending("a", True, 0, 0, 0, 5, 0, 9.0, 1)), ["a: no file is wanted any more"])
+
     def test_round(self) -> None:
         """Each step is 1, 2 or 5 times a power of ten, and there are few of them."""
         self.assertEqual(ticks(23.7), [0, 5, 10, 15, 20])
