@@ -13,8 +13,8 @@ wait no longer than beside libtorrent. In some trials libtorrent's time is print
 A line says who downloaded, how long it took until all was there, the most memory, and the bytes that came beyond one copy, as the leecher tells
 its tracker. Beside a player it says the seconds until the player was at the end, and how long the player stood still.
 
-It needs Debian's packages aria2, transmission-daemon, qbittorrent-nox, rtorrent, opentracker and python3-libtorrent, and `unshare` for a network
-of its own.
+It needs Debian's packages aria2, transmission-daemon, transmission-cli, qbittorrent-nox, rtorrent, opentracker and python3-libtorrent, and
+`unshare` for a network of its own.
 """
 
 from __future__ import annotations

@@ -25,7 +25,7 @@ from fetch.wire import Inbound, WireFault
 
 from .spoken import Speaking, message
 from .support import (
-    BITFIELD, BLOCK_MESSAGE, CONTENT, EXTENDED, PIECE, PIECES, REQUEST, UNCHOKE, Downloading, flags_of, folder_torrent, messages, say,
+    BITFIELD, BLOCK_MESSAGE, CONTENT, EXTENDED, HAVE, PIECE, PIECES, REQUEST, UNCHOKE, Downloading, flags_of, folder_torrent, messages, say,
     single_torrent,
 )  # fmt: skip
 from .trackers import HttpTracker
@@ -235,6 +235,8 @@ class InfoPeer:
             told: dict[bytes, Value] = {b"m": {b"ut_metadata": 3}, b"metadata_size": size}
             say(connection, EXTENDED, b"\0" + (b"l" * 1000 if self.lies == "deep" else bencode(told)))
             say(connection, BITFIELD, flags_of(range(PIECES)))
+            if self.lies == "nonsense":
+                say(connection, HAVE, b"\xff" * 4)
             say(connection, UNCHOKE)
             self._answer_all(connection, stream)
 
@@ -324,6 +326,14 @@ class Followed(Downloading):
         liars = [self.info_peer(lies) for lies in ("gigabytes", "none", "deep", "wrong", "rejects", "long")]
         honest = self.info_peer()
         self.follow("".join(f"&x.pe={peer.address}" for peer in (*liars, honest)))
+        self.assert_whole()
+
+    def test_nonsense(self) -> None:
+        """What a peer has said before the dictionary was there is heard then, and where it is nonsense that peer is let go."""
+        liar = self.info_peer("nonsense")
+        errors = self.follow(f"&x.pe={liar.address}", "--give-up", "3", status=1)
+        self.assertIn("1 peer: have: no such piece", errors)
+        self.follow(f"&x.pe={liar.address}&x.pe={self.info_peer().address}")
         self.assert_whole()
 
     def test_nobody(self) -> None:
