@@ -45,6 +45,7 @@ def fetch(source: Source, options: Options, reach: Reach) -> bool:
             download.prepare()
             is_done = download.run()
     except Interrupted:
+        print("fetch.py: interrupted while it checked what is there; the same command goes on", file=sys.stderr)
         return False
     finally:
         download.close()

@@ -2,16 +2,25 @@
 
 from __future__ import annotations
 
+import contextlib
+import io
 import os
 import socket
 import subprocess
 import sys
 import time
 import unittest
+from collections.abc import Iterator
 from pathlib import Path
+from unittest.mock import patch
 
 from fetch import CLIENTS
 from fetch.ending import Ending, told
+from fetch.options import Options
+from fetch.reach import Reach
+from fetch.running import fetch
+from fetch.signals import Loop
+from fetch.source import Source
 from fetch.ticks import ticks
 
 from .support import CONTENT, Downloading, folder_torrent
@@ -110,6 +119,23 @@ class Single(Contact):
                 self.assertEqual(process.returncode, 2, process.stderr)
                 self.assertIn(text, process.stderr)
         self.assertEqual([path.name for path in self.folder.iterdir() if path.suffix == ".lock"], [])
+
+
+class Early(Contact):
+    """An interrupt while it is checked what is there."""
+
+    def test_told(self) -> None:
+        @contextlib.contextmanager
+        def interrupt(loop: Loop) -> Iterator[None]:
+            loop.is_stopping = True
+            yield
+
+        self.out.write_bytes(CONTENT)
+        options, errors = Options(str(self.torrent_path), str(self.out), listens=False, asks_trackers=False, quiet=True), io.StringIO()
+        with patch("fetch.running.ends_in_order", interrupt), contextlib.redirect_stderr(errors):
+            self.assertFalse(fetch(Source(self.torrent), options, Reach(options)))
+        self.assertIn("interrupted while it checked what is there; the same command goes on", errors.getvalue())
+        self.assertEqual(self.out.read_bytes(), CONTENT)
 
 
 class Folder(Contact):
