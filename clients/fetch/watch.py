@@ -8,7 +8,7 @@ from collections.abc import Callable, Sequence
 from dataclasses import dataclass
 from typing import TextIO
 
-from .choosing import Chooser, Row
+from .choosing import Chooser, Row, filled
 from .peer import Peer
 from .progress import size
 from .session import Session
@@ -100,17 +100,6 @@ def screen(session: Session, head: str, width: int, height: int) -> list[str]:
     lines += [clip(line_of(peer, number, session.layout.pieces, session.now), width) for number, peer in enumerate(peers)]
     legend = [paint(line[:width], GREY) for line in filled(LEGEND, width)]
     return [*lines[: max(0, height - 2 - len(legend))], "", *legend][: height - 1]
-
-
-def filled(parts: Sequence[str], width: int) -> list[str]:
-    """The parts in as few lines as there is room for; none is cut in two."""
-    lines = [parts[0]]
-    for part in parts[1:]:
-        if len(lines[-1]) + 2 + len(part) <= width:
-            lines[-1] += "  " + part
-        else:
-            lines.append(part)
-    return lines
 
 
 def clip(line: str, width: int) -> str:

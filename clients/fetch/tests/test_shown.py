@@ -17,11 +17,12 @@ from typing import Any
 from xml.etree import ElementTree
 
 from fetch import CLIENTS
+from fetch.choosing import HELP, filled
 from fetch.picture import draw
 from fetch.progress import State, duration, line, size
 from fetch.serving import WrongRange, range_of
 from fetch.trace import Trace
-from fetch.watch import LEGEND, Cell, clip, filled, glyph, numbers
+from fetch.watch import LEGEND, Cell, clip, glyph, numbers
 
 from .support import CONTENT, PIECE, Downloading, folder_torrent
 from .test_files import parts
@@ -130,7 +131,7 @@ class Drawn(unittest.TestCase):
         self.assertEqual(clip("abc", 10), "abc")
         self.assertEqual(filled(["ab", "cd", "efg"], 6), ["ab  cd", "efg"])
         for width in (80, 100, 200):
-            self.assertLessEqual(max(map(len, filled(LEGEND, width))), width)
+            self.assertLessEqual(max(map(len, [*filled(LEGEND, width), *filled(HELP, width)])), width)
         self.assertEqual(len(filled(LEGEND, 120)), 2)
 
 
