@@ -91,6 +91,11 @@ def figures_of(client: Client) -> str:
     return " ".join(f"{name}={told[name]}" for name in names if name in told)
 
 
+def memory_of(leechers: list[Client]) -> float:
+    """The most memory of the leechers that are of the first one's kind."""
+    return max(client.megabytes() for client in leechers if client.name == leechers[0].name)
+
+
 def finish(place: Place, leechers: list[Client]) -> Outcome:
     """Waits for the leechers, ends all, and counts what came."""
     is_well = place.wait_all(leechers, LONGEST)
@@ -98,7 +103,7 @@ def finish(place: Place, leechers: list[Client]) -> Outcome:
         client.stop()
     came = place.downloaded(leechers)
     return Outcome(
-        leechers[0].name, is_well, [client.seconds for client in leechers], max(client.megabytes() for client in leechers),
+        leechers[0].name, is_well, [client.seconds for client in leechers], memory_of(leechers),
         None if came is None else came - len(leechers) * place.content.total,
         " | ".join(figures_of(client) for client in leechers if client.name == "fetch"),
     )  # fmt: skip
@@ -304,7 +309,7 @@ def ended(place: Place, leechers: list[Client]) -> Outcome:
     told = [figures_of(client) for client in leechers if client.name == "fetch"]
     twice = [int(word[6:]) << 14 for figures in told for word in figures.split() if word.startswith("twice=")]
     return Outcome(
-        leechers[0].name, is_well, [client.seconds for client in leechers], max(client.megabytes() for client in leechers),
+        leechers[0].name, is_well, [client.seconds for client in leechers], memory_of(leechers),
         sum(twice) if len(twice) == len(leechers) else None, " | ".join(told),
     )  # fmt: skip
 
