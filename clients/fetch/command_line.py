@@ -13,7 +13,7 @@ from . import addresses
 from .blame import Address
 from .magnet import PREFIX
 from .options import FIRST_NODES, Options
-from .web import is_address
+from .urls import is_address
 
 MOST_FILES = 1 << 20
 SINGLE = {

@@ -10,7 +10,8 @@ from urllib.parse import quote, urljoin, urlsplit
 
 from .addresses import is_loopback
 from .layout import File, Layout
-from .web import AGENT, is_address, reason_of
+from .reasons import reason_of
+from .urls import AGENT, is_address
 
 TIMEOUT = 20.0  # seconds without a byte
 MOST_REDIRECTS = 5

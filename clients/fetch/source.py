@@ -8,13 +8,14 @@ from contextlib import AbstractContextManager, closing
 from dataclasses import dataclass, field
 from typing import TYPE_CHECKING
 
-from . import magnet, web
+from . import magnet
 from .addresses import Origin
 from .blame import Address
 from .metainfo import MetainfoFault
 from .options import Options
 from .reach import Reach
 from .signals import Loop
+from .urls import is_address
 
 if TYPE_CHECKING:
     from .seeking import Met
@@ -62,7 +63,9 @@ def _no_file(torrent: str, error: OSError) -> Exception:
 
 def read(options: Options) -> Source:
     """The torrent of a file, or of an address of the web. Raises OSError, ValueError and MetainfoFault."""
-    if web.is_address(options.torrent):
+    if is_address(options.torrent):
+        from . import web
+
         try:
             metainfo = web.get(options.torrent, LARGEST_BY_WEB, WEB_SECONDS, options.bind)
         except web.WebFault as fault:

@@ -3,14 +3,14 @@
 from __future__ import annotations
 
 import http.client
-import ssl
 import time
 import urllib.error
 import urllib.request
 from functools import partial
 
-AGENT = "piecepick-fetch"
-SCHEMES = ("http://", "https://")
+from .reasons import reason_of
+from .urls import AGENT
+
 READ = 1 << 16
 
 
@@ -49,24 +49,6 @@ def _opener(source: str) -> urllib.request.OpenerDirector:
     opener.add_handler(urllib.request.HTTPDefaultErrorHandler())
     opener.addheaders = [("User-Agent", AGENT)]
     return opener
-
-
-def reason_of(error: Exception) -> str:
-    """Why a connection or an answer came to nothing, for the user."""
-    if isinstance(error, ssl.SSLCertVerificationError):
-        return f"the certificate isn't trusted ({error.verify_message}): the environment's SSL_CERT_FILE may name other authorities"
-    if isinstance(error, ssl.SSLError):
-        return f"no HTTPS is spoken there ({error.reason or 'the connection ended'})"
-    if isinstance(error, http.client.IncompleteRead):
-        return "the answer is cut short"
-    if isinstance(error, http.client.HTTPException) and not isinstance(error, http.client.InvalidURL | ConnectionError):
-        return "no HTTP is spoken there"
-    return getattr(error, "strerror", None) or str(error) or type(error).__name__
-
-
-def is_address(text: str) -> bool:
-    """Whether it is an address of the web."""
-    return text.lower().startswith(SCHEMES)
 
 
 def get(url: str, largest: int, seconds: float, source: str = "") -> bytes:
