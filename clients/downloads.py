@@ -1,17 +1,21 @@
 #!/usr/bin/env python3
 """Runs the downloader against real clients on this machine, and the same downloads by those clients.
 
-usage: downloads.py [NAME ..]        (--list names them; all of them where none is named)
+usage: downloads.py [--rounds N] [NAME ..]        (--list names them; all of them where none is named)
        downloads.py --picture FILE.svg
 
 It makes files and torrents in a directory of its own, and starts a small tracker, the seeders and the leechers. The content of each leecher is
-compared by SHA-1, file by file. The status is 0 where each download was well, and a player waited no longer than beside libtorrent.
+compared by SHA-1, file by file. Where others download the same, the medians of all rounds are compared.
+
+The status is 0 where each download was well and ours had at most 60 MB, and let a player wait no longer than beside libtorrent. From three rounds
+on ours must have taken at most 1.05 of the time of the best other client. In some trials libtorrent's time is printed, and ours is judged by the
+others alone: see SHORT.
 
 A line says who downloaded, how long it took until all was there, the most memory, and the bytes that came beyond one copy, as the leecher tells
 its tracker. Beside a player it says the seconds until the player was at the end, and how long the player stood still.
 
-It needs Debian's packages aria2, transmission-daemon, qbittorrent-nox, rtorrent, opentracker and python3-libtorrent, and `unshare` for a network
-of its own.
+It needs Debian's packages aria2, transmission-daemon, transmission-cli, qbittorrent-nox, rtorrent, opentracker and python3-libtorrent, and
+`unshare` for a network of its own.
 """
 
 from __future__ import annotations
@@ -35,14 +39,20 @@ from fetch.dht.node import Node
 from fetch.tests.webservers import WebServer
 from others import (
     LOCAL, NETWORK, READY, START, Client, Content, Place, aria2, enter_network, fetch, free_port, libtorrent, libtorrent_peer, opentracker,
-    transmission,
+    transmission, transmission_by_link,
 )  # fmt: skip
 
-LONGEST = 150.0  # seconds of one download
+LONGEST = 240.0  # seconds of one download
+MOST_MEMORY = 60.0  # megabytes of ours
+MOST_TIME = 1.05  # of the best other client's seconds
+LEAST_ROUNDS = 3  # from which on times are judged: single ones differ by a tenth, and more, by chance
+BEST_OF = ("aria2", "transmission", "libtorrent")
+# Where ours isn't judged by libtorrent, which is C++ in many threads: nothing limits the line, or three seconds are all, and Python's start counts.
+SHORT = ("aria2", "giving", "folder", "large", "magnet given")
+NODES = 9  # of the DHT beside the clients: transmission takes a smaller one for a broken one
 PIECE_LENGTH = 1 << 18
 MEGABYTE = 1000000
-LEECHERS = ("fetch", "aria2", "transmission")
-METERED = ("--seed-minutes", "10", "--meter")
+LEECHERS = ("fetch", "aria2", "transmission", "libtorrent")
 
 # The trial `player`.
 RATE = MEGABYTE  # bytes a second that the player takes, as a film of 8 Mbit/s has them
@@ -79,8 +89,13 @@ def figures_of(client: Client) -> str:
     """What the downloader of this folder printed at its end."""
     assert client.process.stdout
     told = json.loads(client.process.stdout.read() or b"{}")
-    names = ("seconds", "blocks", "twice", "requests", "endgame_requests", "late_bitfields", "failed", "lost", "uploaded", "calls", "library")
+    names = ("seconds", "blocks", "twice", "requests", "endgame_requests", "late_bitfields", "failed", "lost", "uploaded")
     return " ".join(f"{name}={told[name]}" for name in names if name in told)
+
+
+def memory_of(leechers: list[Client]) -> float:
+    """The most memory of the leechers that are of the first one's kind."""
+    return max(client.megabytes() for client in leechers if client.name == leechers[0].name)
 
 
 def finish(place: Place, leechers: list[Client]) -> Outcome:
@@ -90,20 +105,10 @@ def finish(place: Place, leechers: list[Client]) -> Outcome:
         client.stop()
     came = place.downloaded(leechers)
     return Outcome(
-        leechers[0].name, is_well, [client.seconds for client in leechers], max(client.megabytes() for client in leechers),
+        leechers[0].name, is_well, [client.seconds for client in leechers], memory_of(leechers),
         None if came is None else came - len(leechers) * place.content.total,
         " | ".join(figures_of(client) for client in leechers if client.name == "fetch"),
     )  # fmt: skip
-
-
-def start_fetch(place: Place) -> Client:
-    """The downloader, with the time in the library measured."""
-    return fetch(place, False, words=METERED)
-
-
-def by_each(place: Place, who: str) -> Client:
-    """A leecher."""
-    return start_fetch(place) if who == "fetch" else START[who](place, False)
 
 
 def one_seeder(seeder: str) -> Callable[[Place, str], Outcome]:
@@ -111,7 +116,7 @@ def one_seeder(seeder: str) -> Callable[[Place, str], Outcome]:
 
     def run(place: Place, who: str) -> Outcome:
         place.wait_ready(START[seeder](place, True))
-        return finish(place, [by_each(place, who)])
+        return finish(place, [START[who](place, False)])
 
     return run
 
@@ -121,14 +126,14 @@ def three(place: Place, who: str) -> Outcome:
     place.wait_ready(transmission(place, True))
     place.wait_ready(aria2(place, True, 8000))
     place.wait_ready(aria2(place, True, 8000, keeps=lambda piece: piece % 2 == 0))
-    return finish(place, [by_each(place, who)])
+    return finish(place, [START[who](place, False)])
 
 
 def killed(place: Place, who: str) -> Outcome:
     """Two seeders of 4 MB a second, of which the first is killed after four seconds."""
     first = place.wait_ready(aria2(place, True, 4000))
     place.wait_ready(transmission(place, True, 4000))
-    leecher = by_each(place, who)
+    leecher = START[who](place, False)
     time.sleep(4.0)
     first.process.kill()
     return finish(place, [leecher])
@@ -138,20 +143,20 @@ def slow(place: Place, who: str) -> Outcome:
     """A quick seeder, and one of 100 KB a second: its last blocks are asked of the other too."""
     place.wait_ready(transmission(place, True))
     place.wait_ready(aria2(place, True, 100))
-    return finish(place, [by_each(place, who)])
+    return finish(place, [START[who](place, False)])
 
 
 def folder(place: Place, who: str) -> Outcome:
     """Many files from two clients."""
     place.wait_ready(START["qbittorrent"](place, True))
     place.wait_ready(START["rtorrent"](place, True))
-    return finish(place, [by_each(place, who)])
+    return finish(place, [START[who](place, False)])
 
 
 def resumed(place: Place, who: str) -> Outcome:
     """The downloader is killed three times, and goes on each time."""
     seeder = place.wait_ready(aria2(place, True, 20000))
-    leecher = start_fetch(place)
+    leecher = fetch(place, False)
     began = leecher.began
     for _ in range(3):
         time.sleep(4.0)
@@ -306,7 +311,7 @@ def ended(place: Place, leechers: list[Client]) -> Outcome:
     told = [figures_of(client) for client in leechers if client.name == "fetch"]
     twice = [int(word[6:]) << 14 for figures in told for word in figures.split() if word.startswith("twice=")]
     return Outcome(
-        leechers[0].name, is_well, [client.seconds for client in leechers], max(client.megabytes() for client in leechers),
+        leechers[0].name, is_well, [client.seconds for client in leechers], memory_of(leechers),
         sum(twice) if len(twice) == len(leechers) else None, " | ".join(told),
     )  # fmt: skip
 
@@ -319,6 +324,8 @@ def by_link(place: Place, who: str, first: str) -> Client:
     if who == "aria2":
         words = ("--enable-dht=true", f"--dht-entry-point={first}", "--seed-time=0", f"--dht-file-path={place.folder / 'aria2.dat'}")
         return aria2(place, False, words=words, torrent=link)
+    if who == "transmission":
+        return transmission_by_link(place, link, first)
     return libtorrent_peer(place, False, ("--node", first), torrent=link)
 
 
@@ -328,7 +335,8 @@ def by_magnet(place: Place, who: str) -> Outcome:
     at = place.address()
     first = f"{at[0]}:{at[1]}"
     for number in range(3):
-        libtorrent_peer(place, True, ("--node", first, "--up", "4000"), at=at if number == 0 else None)
+        words = ("--node", first, "--up", "4000", "--nodes", str(NODES if number == 0 else 0))
+        libtorrent_peer(place, True, words, at=at if number == 0 else None)
     wait_announced(place, first, 3)
     return ended(place, [by_link(place, who, first)])
 
@@ -347,11 +355,16 @@ def exchanged(place: Place, who: str) -> Outcome:
     seeder = libtorrent_peer(place, True, ("--up", "1000", "--exchange"))
     place.tracker.only = (seeder.host, seeder.port)
     place.wait_ready(seeder)
-    if who == "fetch":
-        leechers = [fetch(place, False) for _ in range(5)]
-    else:
-        leechers = [aria2(place, False, words=("--enable-peer-exchange=true",)) for _ in range(5)]
-    return finish(place, leechers)
+    return finish(place, [exchanging(place, who) for _ in range(5)])
+
+
+def exchanging(place: Place, who: str) -> Client:
+    """A leecher that tells others of its peers."""
+    if who == "aria2":
+        return aria2(place, False, words=("--enable-peer-exchange=true",))
+    if who == "transmission":
+        return transmission(place, False, exchanges=True)
+    return START[who](place, False)  # ours and libtorrent do so by themselves
 
 
 def by_web(place: Place, who: str) -> Outcome:
@@ -376,13 +389,12 @@ def by_web(place: Place, who: str) -> Outcome:
 
 FOLDER = {f"{number % 7}/file {number}": 1 + number * number * 37 for number in range(200)} | {"large": 20 * MEGABYTE}
 ONE = ("fetch",)
-BY_LINK = ("fetch", "aria2", "libtorrent")
 TRIALS: dict[str, tuple[Callable[[Place, str], Outcome], tuple[str, ...], dict[str, int], int]] = {  # who downloads; files; piece length
     "transmission": (one_seeder("transmission"), ONE, {"": 24 * MEGABYTE}, PIECE_LENGTH),
     "qbittorrent": (one_seeder("qbittorrent"), ONE, {"": 200 * MEGABYTE}, PIECE_LENGTH),
     "rtorrent": (one_seeder("rtorrent"), ONE, {"": 200 * MEGABYTE}, PIECE_LENGTH),
     "aria2": (one_seeder("aria2"), LEECHERS, {"": 200 * MEGABYTE}, PIECE_LENGTH),
-    "giving": (one_seeder("fetch"), ("fetch", "aria2", "transmission", "qbittorrent", "rtorrent"), {"": 200 * MEGABYTE}, PIECE_LENGTH),
+    "giving": (one_seeder("fetch"), (*LEECHERS, "qbittorrent", "rtorrent"), {"": 200 * MEGABYTE}, PIECE_LENGTH),
     "three": (three, ONE, {"": 48 * MEGABYTE}, PIECE_LENGTH),
     "killed": (killed, ONE, {"": 32 * MEGABYTE}, PIECE_LENGTH),
     "slow": (slow, LEECHERS, {"": 24 * MEGABYTE}, PIECE_LENGTH),
@@ -392,26 +404,48 @@ TRIALS: dict[str, tuple[Callable[[Place, str], Outcome], tuple[str, ...], dict[s
     "by http": (by_opentracker("http"), ONE, {"": 24 * MEGABYTE}, PIECE_LENGTH),
     "swarm": (swarm, LEECHERS, {"": 30 * MEGABYTE}, PIECE_LENGTH),
     "mixed": (mixed, ONE, {"": 30 * MEGABYTE}, PIECE_LENGTH),
-    "magnet": (by_magnet, BY_LINK, {"": 48 * MEGABYTE}, PIECE_LENGTH),
-    "magnet given": (magnet_given, BY_LINK, {"": 48 * MEGABYTE}, PIECE_LENGTH),
-    "exchange": (exchanged, ("fetch", "aria2"), {"": 30 * MEGABYTE}, PIECE_LENGTH),
-    "web": (by_web, (*LEECHERS, "libtorrent"), {"": 200 * MEGABYTE}, PIECE_LENGTH),
-    "player": (played, ("fetch", *PLAYERS) * 3, {"": 24 * MEGABYTE}, PIECE_LENGTH),
+    "magnet": (by_magnet, LEECHERS, {"": 48 * MEGABYTE}, PIECE_LENGTH),
+    "magnet given": (magnet_given, ("fetch", "aria2", "libtorrent"), {"": 48 * MEGABYTE}, PIECE_LENGTH),
+    "exchange": (exchanged, LEECHERS, {"": 30 * MEGABYTE}, PIECE_LENGTH),
+    "web": (by_web, LEECHERS, {"": 200 * MEGABYTE}, PIECE_LENGTH),
+    "player": (played, ("fetch", *PLAYERS), {"": 24 * MEGABYTE}, PIECE_LENGTH),
     "large": (one_seeder("aria2"), LEECHERS, {"": 1 << 32}, 1 << 20),
 }
 
 
-def run(name: str) -> bool:
-    """The downloads of one name, each with a line; whether all were well."""
+def run(name: str, rounds: int) -> bool:
+    """The downloads of one name, each with a line; whether all were well, and ours good enough."""
     trial, leechers, lengths, piece_length = TRIALS[name]
+    rounds = max(rounds, LEAST_ROUNDS) if trial is played else rounds  # its waits are judged in any case
     outcomes = []
     with tempfile.TemporaryDirectory() as directory:
         content = Content(Path(directory), lengths, piece_length)
         content.make(name)
-        for who in leechers:
+        for who in leechers * rounds:
             outcomes.append(run_one(trial, who, content))
             print(outcomes[-1].line(name), flush=True)
-    return all(outcome.is_well for outcome in outcomes) and (trial is not played or waits_least(outcomes))
+    is_well = all(outcome.is_well and (outcome.who != "fetch" or outcome.megabytes <= MOST_MEMORY) for outcome in outcomes)
+    return all([is_well, trial is not played or waits_least(outcomes), len(set(leechers)) == 1 or is_quick(name, outcomes)])
+
+
+def is_quick(name: str, outcomes: list[Outcome]) -> bool:
+    """Whether ours took at most so much of the best other client's time. The medians count, of several leechers those of the last one."""
+    seconds: dict[str, list[float]] = {}
+    for outcome in outcomes:
+        seconds.setdefault(outcome.who, []).append(max(outcome.seconds))
+    medians = {who: statistics.median(times) for who, times in seconds.items()}
+    told = "  ".join(f"{who} {median:.1f} s" for who, median in medians.items())
+    # The player's settings of libtorrent are two of its clients.
+    ratios = {who: medians["fetch"] / median for who, median in medians.items() if who in (*BEST_OF, *PLAYERS)}
+    judged = max(ratio for who, ratio in ratios.items() if who != "libtorrent" or name not in SHORT)
+    is_judged = min(len(times) for times in seconds.values()) >= LEAST_ROUNDS
+    print(f"{name:<13} medians  {told}  ours {judged:.2f} of the best" + beside_libtorrent(name, ratios), flush=True)
+    return judged <= MOST_TIME or not is_judged
+
+
+def beside_libtorrent(name: str, ratios: dict[str, float]) -> str:
+    """What is said of libtorrent where ours isn't judged by it."""
+    return f", and {ratios['libtorrent']:.2f} of libtorrent" if name in SHORT else ""
 
 
 def run_one(trial: Callable[[Place, str], Outcome], who: str, content: Content) -> Outcome:
@@ -448,17 +482,20 @@ def picture(path: str) -> None:
 
 def main() -> int:
     """Runs the downloads that are named, or all."""
-    names = sys.argv[1:] or list(TRIALS)
+    names, rounds = sys.argv[1:], 1
     if names == ["--list"]:
         print("\n".join(TRIALS))
         return 0
+    if names[:1] == ["--rounds"]:
+        rounds, names = int(names[1]), names[2:]
+    names = names or list(TRIALS)
     enter_network()
     for number in (signal.SIGINT, signal.SIGTERM):
         signal.signal(number, signal.default_int_handler)  # so that what was started is ended
     if names[0] == "--picture":
         picture(names[1])
         return 0
-    return 0 if all([run(name) for name in names]) else 1
+    return 0 if all([run(name, rounds) for name in names]) else 1
 
 
 if __name__ == "__main__":

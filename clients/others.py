@@ -304,20 +304,35 @@ def aria2(
     return place.start("aria2", command + (["--check-integrity=true"] if seeds else []), host, port, room / "content")
 
 
-def transmission(place: Place, seeds: bool, kilobytes: int = 0) -> Client:
+def transmission(place: Place, seeds: bool, kilobytes: int = 0, exchanges: bool = False) -> Client:
     """transmission-daemon."""
     (host, port), room = place.address(), place.room("transmission", seeds)
-    (room / "settings").mkdir()
     (room / "watched").mkdir()
     shutil.copy(place.torrent, room / "watched")
-    chosen = {
+    settings = transmission_settings(room, host, port, kilobytes, {"pex-enabled": exchanges})
+    command = ["transmission-daemon", "--foreground", "--config-dir", str(settings)]
+    return place.start("transmission", command, host, port, room / "content")
+
+
+def transmission_by_link(place: Place, link: str, node: str) -> Client:
+    """transmission-cli by a magnet link. Its DHT begins at this node."""
+    (host, port), room = place.address(), place.room("transmission", False)
+    settings = transmission_settings(room, host, port, 0, {"dht-enabled": True})
+    (settings / "dht.bootstrap").write_text(node.replace(":", " ") + "\n", encoding="ascii")
+    command = ["transmission-cli", "--config-dir", str(settings), "--download-dir", str(room), "--port", str(port), link]
+    return place.start("transmission", command, host, port, room / "content")
+
+
+def transmission_settings(room: Path, host: str, port: int, kilobytes: int, more: dict[str, object]) -> Path:
+    """A folder with the settings of transmission. A torrent in the folder `watched` beside it is taken."""
+    (room / "settings").mkdir()
+    chosen: dict[str, object] = {
         "bind-address-ipv4": host, "bind-address-ipv6": "::1", "peer-port": port, "rpc-enabled": False, "download-dir": str(room),
         "watch-dir": str(room / "watched"), "watch-dir-enabled": True, "dht-enabled": False, "lpd-enabled": False, "pex-enabled": False,
         "utp-enabled": False, "port-forwarding-enabled": False, "speed-limit-up": kilobytes, "speed-limit-up-enabled": kilobytes > 0,
     }  # fmt: skip
-    (room / "settings" / "settings.json").write_text(json.dumps(chosen), encoding="ascii")
-    command = ["transmission-daemon", "--foreground", "--config-dir", str(room / "settings")]
-    return place.start("transmission", command, host, port, room / "content")
+    (room / "settings" / "settings.json").write_text(json.dumps(chosen | more), encoding="ascii")
+    return room / "settings"
 
 
 def qbittorrent(place: Place, seeds: bool, kilobytes: int = 0) -> Client:
@@ -358,8 +373,13 @@ def libtorrent_peer(place: Place, seeds: bool, words: tuple[str, ...] = (), torr
     """libtorrent-rasterbar by its own settings, as a seeder, or as a leecher that ends when it has all."""
     (host, port), room = at or place.address(), place.room("libtorrent", seeds)
     script = str(HERE / "fetch" / "tests" / "libtorrent_peer.py")
-    command = ["/usr/bin/python3", script, torrent or str(place.torrent), str(room), host, str(port), *words, *(["--seeds"] if seeds else [])]
+    command = ["/usr/bin/python3", script, torrent or str(place.torrent), str(room), host, str(port), *words, *(["--stays"] if seeds else [])]
     return place.start("libtorrent", command, host, port, room / "content")
+
+
+def libtorrent_client(place: Place, seeds: bool, kilobytes: int = 0) -> Client:
+    """The same, which stays when it has all, as the other clients do."""
+    return libtorrent_peer(place, seeds, ("--stays", "--up", str(kilobytes)))
 
 
 def opentracker(place: Place) -> int:
@@ -392,4 +412,5 @@ def fetch(
 
 START: dict[str, Callable[..., Client]] = {
     "aria2": aria2, "transmission": transmission, "qbittorrent": qbittorrent, "rtorrent": rtorrent, "fetch": fetch,
+    "libtorrent": libtorrent_client,
 }  # fmt: skip

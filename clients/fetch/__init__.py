@@ -14,7 +14,8 @@ The modules:
     ending, listing, faults     what is said at the end, the list of files, and what the user can mend
     signals, identity           interrupts, and who we are
     parts, transfer, levels     what one download is made of, what runs it, and which files come
-    source, magnet, web         where a torrent comes from: a file, a link, or an address of the web
+    source, magnet, web, urls   where a torrent comes from: a file, a link, or an address of the web
+    following                   the way from a link to its torrent
     metainfo, spans, layout     the files that a metainfo file names, and which bytes of the content lie where
     place, lock                 where a download goes, and that nobody else writes there
     storage, checking, resume   the disk, the threads that hash what is on it, and the file that lets a killed download go on
@@ -34,6 +35,7 @@ The modules:
     dht, local                  a node of the DHT, and the local network
     announcing, tracker*        trackers, by HTTP and by UDP
     ranges, webseed, webseeds   web servers that have the content
+    reasons                     why one came to nothing
     progress, watch, serving    the progress line, the drawing in the terminal, and the files for a player
     choosing, keys              the files as a list on the screen, and the keys
     deadlines                   which peers are too slow for a player

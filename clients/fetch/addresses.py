@@ -147,5 +147,5 @@ def looked_up(address: Address) -> Address:
     try:
         where = socket.getaddrinfo(*address, type=socket.SOCK_STREAM)[0][4]
     except OSError as error:
-        raise ValueError(f"{address[0]}: {error.strerror}") from error
+        raise ValueError(f"the peer {address[0]}:{address[1]} can't be looked up: {error.strerror}") from error
     return str(where[0]), int(where[1])

@@ -8,7 +8,7 @@ import threading
 from collections.abc import Callable
 from dataclasses import dataclass
 
-from . import tracker_http, tracker_udp
+from . import tracker_udp
 from .tracker import Announce, Event, Told, TrackerFault
 
 FIRST_RETRY = 15.0  # seconds after all trackers failed; it doubles each time
@@ -34,6 +34,8 @@ def announce(url: str, request: Announce, tracker_id: bytes = b"", source: str =
         wait, tries = (STOP_SECONDS / 2, 1) if hurries else (tracker_udp.FIRST_WAIT, tracker_udp.TRIES)
         return tracker_udp.announce(url, request, wait, tries, source)
     if url.lower().startswith(("http://", "https://")):
+        from . import tracker_http  # here, since it takes a while, and this is a thread of its own
+
         return tracker_http.announce(url, request, STOP_SECONDS if hurries else tracker_http.TIMEOUT, tracker_id, source)
     raise TrackerFault("no tracker of this kind is known")
 

@@ -11,16 +11,20 @@ from .metadata import Assembly, Word
 from .wire import Handshake, Inbound, Message, WireFault, extended_of
 
 PIECES = 1 << 23  # as many may the peer's bitfield have, since nobody knows yet how many there are
+MOST_HEARD = 1 << 18  # bytes that are kept for who goes on with the connection
 
 
 class Asking:
     """One peer. `unsent` is what is to be sent, `info` the dictionary once it is there. `may_begin` bounds the sizes that come at a time."""
 
-    def __init__(self, infohash: bytes, peer_id: bytes, may_begin: Callable[[int], bool], on_peers: Callable[[list[Address]], None]) -> None:
+    def __init__(
+        self, infohash: bytes, peer_id: bytes, may_begin: Callable[[int], bool], on_peers: Callable[[list[Address]], None], has_dht: bool = False
+    ) -> None:
         self.infohash, self.peer_id = infohash, peer_id
         self.may_begin, self.on_peers = may_begin, on_peers
         self.inbound = Inbound(PIECES)
-        self.unsent = bytearray(Handshake(infohash, peer_id).spell())
+        self.unsent = bytearray(Handshake(infohash, peer_id, has_dht=has_dht).spell())
+        self._heard = bytearray()
         self.is_greeted = False
         self.hello = Hello()
         self.assembly: Assembly | None = None
@@ -32,6 +36,13 @@ class Asking:
         """The bytes that are under way, or may be."""
         return self.assembly.size if self.assembly else 0
 
+    @property
+    def heard(self) -> bytes | None:
+        """All that the peer has said, but for the dictionary and other peers; None where nobody can go on with the connection."""
+        if not self.is_greeted or self.unsent or len(self._heard) > MOST_HEARD:
+            return None
+        return bytes(self._heard) + self.inbound.rest
+
     def receive(self, data: bytes) -> None:
         """Takes what came. Raises WireFault where the peer doesn't keep to the protocol, or doesn't give the dictionary."""
         if not self.is_greeted:
@@ -39,10 +50,13 @@ class Asking:
             if handshake is None:
                 return
             self._greet(handshake)
+            self._heard += handshake.spell()
             data = b""
         for kind, payload in self.inbound.messages(data):
             if kind == Message.EXTENDED:
                 self._hear(*extended_of(payload))
+            if (kind != Message.EXTENDED or payload[0] == HELLO) and len(self._heard) <= MOST_HEARD:
+                self._heard += (1 + len(payload)).to_bytes(4, "big") + bytes([kind]) + payload
 
     def _greet(self, handshake: Handshake) -> None:
         if handshake.infohash != self.infohash:

@@ -10,7 +10,7 @@ from .layout import File, printable
 from .progress import size
 
 USUAL, NONE = "4", "0"
-HELP = "up and down choose a file, space takes it or leaves it, 0 to 7 is its level (7 comes first), f ends the list, q the program"
+HELP = ("up and down choose a file", "space takes it or leaves it", "0 to 7 is its level (7 comes first)", "f ends the list", "q the program")
 
 
 @dataclass(frozen=True)
@@ -20,6 +20,17 @@ class Row:
     file: File
     level: int
     share: float
+
+
+def filled(parts: Sequence[str], width: int) -> list[str]:
+    """The parts in as few lines as there is room for; none is cut in two."""
+    lines = [parts[0]]
+    for part in parts[1:]:
+        if len(lines[-1]) + 2 + len(part) <= width:
+            lines[-1] += "  " + part
+        else:
+            lines.append(part)
+    return lines
 
 
 class Chooser:
@@ -57,9 +68,9 @@ class Chooser:
 
     def lines(self, rows: Sequence[Row], width: int, height: int) -> list[str]:
         """The part of the list around the chosen file, no larger than the terminal."""
-        room = max(1, height - 4)
+        lines = [*(line[:width] for line in filled(HELP, width)), ""]
+        room = max(1, height - len(lines) - 2)
         first = min(max(0, self.place - room // 2), max(0, len(rows) - room))
-        lines = [HELP[:width], ""]
         for place, row in enumerate(rows[first : first + room], first):
             sign = ">" if place == self.place else " "
             text = f"{sign} {row.file.number:4} level {row.level} {100 * row.share:5.1f}% {size(row.file.length):>9}  {printable(row.file.path)}"

@@ -3,15 +3,17 @@
 from __future__ import annotations
 
 import argparse
+import ipaddress
 import re
 from collections.abc import Callable
+from contextlib import suppress
 from typing import Any, TypeVar
 
 from . import addresses
 from .blame import Address
 from .magnet import PREFIX
 from .options import FIRST_NODES, Options
-from .web import is_address
+from .urls import is_address
 
 MOST_FILES = 1 << 20
 SINGLE = {
@@ -20,12 +22,30 @@ SINGLE = {
 }  # fmt: skip
 LIKE_ADDRESS = re.compile(r"[^/]+:[0-9]+")
 USAGE = "fetch.py [options] TORRENT [TORRENT ..] [OUT] [HOST:PORT ..]"
-DESCRIPTION = "Downloads a torrent (BEP 3), and shows how the piece picker chooses."
+DESCRIPTION = "Downloads torrents (BEP 3), and shows how the piece picker chooses."
 ENDING = """\
-OUT is the file, or the folder of a torrent of many files. Without it the torrent's own name in this folder is taken. In a folder that is
-there the torrent's own name is taken too, unless an earlier run has begun the torrent's files in it. Of several torrents OUT is a folder.
-The status is 0 where all that is wanted is there, 1 where it isn't, 2 for a wrong command line, 3 for a metainfo file that can't be
-used, and 4 where the disk can't do it. A download that was ended goes on where it was when the same command is given again.
+examples:
+  fetch.py FILE.torrent                       into this folder
+  fetch.py FILE.torrent OUT 192.0.2.7:6881    to OUT, and from this peer too
+  fetch.py 'magnet:?xt=urn:btih:..' FOLDER/   by a magnet link
+  fetch.py A.torrent B.torrent FOLDER         two torrents in one run
+  fetch.py --only 1,3-5 FILE.torrent          some of the files (--list)
+
+OUT is the file, or the folder of a torrent of many files. Without it the
+torrent's own name in this folder is taken. In a folder that is there the
+torrent's own name is taken too, unless an earlier run has begun the torrent's
+files in it. Of several torrents OUT is a folder. A download that was ended goes
+on where it was when the same command is given again.
+
+status:
+  0  all that is wanted is there
+  1  it isn't: the program was interrupted, or gave up (--give-up), or nobody
+     gave the info of a magnet link
+  2  the command line is wrong, a file or a port can't be opened, or the library
+     isn't there
+  3  the metainfo file can't be used
+  4  the disk can't do it: it is full, another file is in the way, or another
+     run downloads to the same place
 """
 
 
@@ -78,7 +98,9 @@ def _numbers(text: str) -> set[int]:
 @_told
 def _level(text: str) -> tuple[int, int]:
     """A file's number and its level: 2=7."""
-    number, _, level = text.partition("=")
+    number, sign, level = text.partition("=")
+    if not sign:
+        raise ValueError(f"{text!r} is no N=L: 2=7 gives file 2 the level 7")
     if _whole(level) > 7:
         raise ValueError(f"{level} is no level: 0 to 7 are")
     return _whole(number), _whole(level)
@@ -87,9 +109,24 @@ def _level(text: str) -> tuple[int, int]:
 @_told
 def _amount(text: str) -> float:
     """A number that isn't negative, perhaps with a fraction."""
-    if not 0 <= (number := float(text)) < 1e12:
-        raise ValueError(f"{text!r} is no amount")
-    return number
+    if not re.fullmatch(r"[0-9]{1,12}(\.[0-9]*)?|\.[0-9]+", text, re.ASCII):
+        raise ValueError(f"{text!r} is no number, such as 1.5")
+    return float(text)
+
+
+def _is_number(host: str) -> bool:
+    """Whether it is an address of IPv4 or IPv6, and not a name."""
+    with suppress(ValueError):
+        return bool(ipaddress.ip_address(host))
+    return False
+
+
+@_told
+def _own(text: str) -> str:
+    """An address of this machine, in numbers; empty for any."""
+    if text and not _is_number(text):
+        raise ValueError(f"{text!r} is no address in numbers, such as 192.0.2.7 or ::1")
+    return text
 
 
 _port, _count = _between(0, 65535), _between(0, 1 << 30)
@@ -115,7 +152,7 @@ def _add_swarm(parser: argparse.ArgumentParser) -> None:
     """With whom."""
     swarm = parser.add_argument_group("the swarm")
     swarm.add_argument("--port", type=_port, help="listen at this port; without it at 6881 to 6889, or at any")
-    swarm.add_argument("--bind", default="", metavar="ADDRESS", help="use this address of ours alone")
+    swarm.add_argument("--bind", type=_own, default="", metavar="ADDRESS", help="use this address of ours alone")
     swarm.add_argument("--no-listen", action="store_false", dest="listens", help="take no connections")
     swarm.add_argument("--peers", type=_peers, dest="most_peers", default=50, metavar="N", help="connections at most, 50 by default")
     swarm.add_argument("--slots", type=_count, default=4, metavar="N", help="peers that are uploaded to at a time, 4 by default; 0 uploads nothing")
@@ -142,7 +179,8 @@ def _add_ends(parser: argparse.ArgumentParser) -> None:
 def _add_shown(parser: argparse.ArgumentParser) -> None:
     """What is shown."""
     shown = parser.add_argument_group("what is shown")
-    shown.add_argument("--watch", action="store_true", dest="watches", help="draw the pieces and the peers in the terminal")
+    watch = "draw the pieces and the peers in the terminal; there f lists the files, and q ends"
+    shown.add_argument("--watch", action="store_true", dest="watches", help=watch)
     shown.add_argument("--picture", metavar="FILE.svg", help="draw the download: time across, pieces up, a colour for each peer")
     shown.add_argument("--by-rarity", action="store_true", help="in the picture the pieces at the bottom that fewest peers show")
     serve = "give the files to players on this machine by HTTP while they come, until it is interrupted"
@@ -179,10 +217,14 @@ def _sort(given: dict[str, Any]) -> None:
     for word in given.pop("words"):
         if _is_torrent(word):
             more.append(word)
-        elif given["out"] is None and not LIKE_ADDRESS.fullmatch(word):
+        elif LIKE_ADDRESS.fullmatch(word):
+            peers.append(addresses.parse(word))
+        elif _is_number(word):
+            raise ValueError(f"{word} has no port: HOST:PORT names a peer, and --out takes a name like this one")
+        elif given["out"] is None:
             given["out"] = word
         else:
-            peers.append(addresses.parse(word))
+            raise ValueError(f"{word!r} is neither a torrent nor a peer (HOST:PORT), and OUT is {given['out']!r} already")
     given |= {"out": given["out"] or "", "more": tuple(more), "peers": peers}
     if more:
         _refuse_single(given)
@@ -200,7 +242,7 @@ def read(words: list[str]) -> Options:
     parser = _parser()
     given = vars(parser.parse_intermixed_args(words))
     if given["torrent"] is None:
-        parser.error("TORRENT is missing: a metainfo file, its address, or a magnet link")
+        parser.error("TORRENT is missing: a metainfo file, its address, or a magnet link. --help lists all options")
     given["levels"] = dict(given.pop("level"))
     given["dht_nodes"] = tuple(given["dht_nodes"]) or FIRST_NODES
     try:

@@ -12,7 +12,7 @@ from . import magnet
 from .options import FIRST_NODES, Options
 from .progress import State
 from .reach import Reach
-from .source import Following, Source, is_magnet, read
+from .source import Source, is_magnet, read
 from .transfer import Interrupted, Transfer
 
 
@@ -70,6 +70,8 @@ class Download:
         if source is None and not is_magnet(self.options.torrent):
             source = read(self.options)
         if source is None:
+            from .following import Following
+
             with closing(Following(magnet.parse(self.options.torrent), self.options, self._reach)) as following:
                 while (source := following.turn()) is None:
                     following.seeker.is_stopping = self._is_stopping
@@ -77,9 +79,9 @@ class Download:
         yield from self._run(source)
 
     def _run(self, source: Source) -> Iterator[State]:
-        self._transfer = transfer = self._transfer or Transfer(self.options, source.metainfo, self._reach)
-        for address, origin in source.peers:
-            transfer.parts.swarm.addresses.add(address, origin)
+        if self._transfer:
+            source.close()
+        self._transfer = transfer = self._transfer or Transfer.of(source, self.options, self._reach)
         try:
             transfer.prepare()
         except Interrupted:

@@ -37,6 +37,8 @@ def told(ending: Ending) -> list[str]:
 def _what(ending: Ending) -> str:
     name = printable(ending.path)
     given = f"; {size(ending.given)} given" if ending.given else ""
+    if ending.is_done and not ending.wanted and ending.came:
+        return f"{name}: no file is wanted any more{given}"
     if ending.is_done and not ending.came:
         return f"{name}: all {size(ending.wanted)} were there{given}"
     peers = f"{ending.givers} peer{'' if ending.givers == 1 else 's'}"

@@ -28,6 +28,11 @@ class Fault:
     text: str
 
 
+def named(torrent: str, text: str) -> str:
+    """A fault's text, behind the name of its torrent."""
+    return text if torrent.startswith("magnet:") or text.startswith(torrent) else f"{torrent}: {text}"
+
+
 def fault_of(error: Exception) -> Fault | None:
     """The fault that an exception stands for; None where it is a mistake of the program."""
     if isinstance(error, NotFound):

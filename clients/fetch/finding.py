@@ -3,15 +3,18 @@
 from __future__ import annotations
 
 import queue
+from typing import TYPE_CHECKING
 
 from .addresses import Origin, is_loopback
 from .blame import Address
-from .dht.node import Node
-from .dht.talk import Search
-from .local import Announced, Local
 from .parts import Parts
 from .reach import Reach
 from .webseeds import WebSeeds
+
+if TYPE_CHECKING:
+    from .dht.node import Node
+    from .dht.talk import Search
+    from .local import Announced, Local
 
 
 class Finding:
@@ -52,10 +55,15 @@ class Finding:
     def tick(self, now: float) -> None:
         """Takes what was found, and announces where it is time for it."""
         swarm, host = self.parts.swarm, self.parts.options.bind
-        for address in self.parts.announcer.tick(now, len(self.parts.session.peers)):
+        told = self.parts.announcer.tick(now, len(self.parts.session.peers))
+        for address in told:
             swarm.addresses.add(address)
+        has_found = bool(told)
         while not self._found.empty():
+            has_found = True
             swarm.addresses.hear(*self._found.get(), (host, 0) if is_loopback(host) else None)
+        if has_found:
+            swarm.connect()
         self.web_seeds.tick(now)
 
     def close(self) -> None:

@@ -2,11 +2,15 @@
 
 from __future__ import annotations
 
+from typing import TYPE_CHECKING
+
 from .choosing import Row
 from .layout import levels_of
 from .parts import Parts
-from .serving import Urgent
 from .storage import StorageFault
+
+if TYPE_CHECKING:
+    from .serving import Urgent
 
 
 class Levels:

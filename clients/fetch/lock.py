@@ -27,7 +27,7 @@ class Lock:
             while self._handle is None:
                 self._try()
         except BlockingIOError as error:
-            raise StorageFault(f"{self.root} is downloaded by another run of this program: wait for its end, or name another OUT") from error
+            raise StorageFault(f"{self.root} is downloaded already, by this run or another one: wait for its end, or name another OUT") from error
         except OSError as error:
             # What may only be read can be given to others all the same, and some disks know no locks.
             if error.errno not in NO_LOCK:

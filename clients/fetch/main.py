@@ -7,7 +7,7 @@ import sys
 from contextlib import closing, suppress
 
 from . import command_line, listing
-from .faults import Ended, fault_of
+from .faults import Ended, fault_of, named
 from .layout import printable
 from .options import Options
 from .progress import Progress
@@ -31,6 +31,7 @@ def list_files(options: Options) -> None:
     with closing(Reach(options)) as reach, closing(Progress(options.quiet)) as progress:
         for torrent in (options.torrent, *options.more):
             source = obtain(options.of(torrent), reach, ends_in_order, progress.tell)
+            source.close()
             progress.end()
             print("\n".join([*([torrent] if options.more else []), *listing.lines(source.metainfo)]))
 
@@ -63,7 +64,8 @@ def run(options: Options) -> Ended:
         fault = fault_of(error)
         if fault is None:
             raise
-        print(f"fetch.py: {printable(fault.text)}", file=sys.stderr)
+        text = named(options.torrent, fault.text) if fault.status is Ended.WRONG_METAINFO else fault.text
+        print(f"fetch.py: {printable(text)}", file=sys.stderr)
         return fault.status
 
 

@@ -26,7 +26,7 @@ def read(metainfo: bytes) -> dict[bytes, Value]:
     try:
         value = bdecode(metainfo)
     except BencodeFault as fault:
-        raise MetainfoFault(f"this is no metainfo file (BEP 3): {fault}") from fault
+        raise MetainfoFault(f"this is no metainfo file (BEP 3), or a damaged one: {fault}") from fault
     if not isinstance(value, dict):
         raise MetainfoFault("this is no metainfo file (BEP 3): it is no dictionary")
     return value

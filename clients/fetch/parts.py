@@ -57,6 +57,8 @@ def layout_of(picker: Picker) -> Layout:
 def listener_of(options: Options) -> socket.socket | None:
     """The socket at which peers connect to us. Raises ValueError where the port that was told can't be had."""
     if not options.listens:
+        if options.bind:
+            _try_address(options.bind)
         return None
     ports = PORTS if options.port is None else [options.port]
     for port in ports:
@@ -70,6 +72,14 @@ def listener_of(options: Options) -> socket.socket | None:
 
 def _listen(host: str, port: int) -> socket.socket:
     return socket.create_server((host, port), family=socket.AF_INET6 if ":" in host else socket.AF_INET)
+
+
+def _try_address(host: str) -> None:
+    """Raises ValueError where connections can't begin at this address."""
+    try:
+        _listen(host, 0).close()
+    except OSError as error:
+        raise ValueError(why_not(error, 0, "--bind", host)) from error
 
 
 def why_not(error: OSError, port: int, option: str, host: str = "") -> str:
@@ -89,8 +99,10 @@ def file_levels(layout: Layout, options: Options) -> dict[int, int]:
     named = set(options.levels) | (options.only or set())
     if unknown := named - numbers:
         raise ValueError(f"there is no file {min(unknown)}: --list shows the numbers")
-    levels = {number: USUAL_LEVEL if options.only is None or number in options.only else 0 for number in numbers}
-    return levels | options.levels
+    levels = {number: USUAL_LEVEL if options.only is None or number in options.only else 0 for number in numbers} | options.levels
+    if not any(levels.values()):
+        raise ValueError("no file is wanted: --only and --level choose some")
+    return levels
 
 
 class Parts:

@@ -72,6 +72,7 @@ class Peer:
     heard: float = 0.0
     said: float = 0.0
     block_came: float = 0.0
+    came: int = 0  # bytes of blocks that the rates don't know yet
     down: Rate = field(init=False)
     up: Rate = field(init=False)
     twice: int = 0

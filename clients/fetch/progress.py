@@ -2,6 +2,7 @@
 
 from __future__ import annotations
 
+import os
 import sys
 import time
 from dataclasses import dataclass
@@ -57,6 +58,14 @@ def line(state: State) -> str:
     return ", ".join(parts)
 
 
+def width_of(stream: TextIO) -> int:
+    """The columns of a terminal; 0 where nobody knows."""
+    try:
+        return os.get_terminal_size(stream.fileno()).columns
+    except OSError:
+        return 0
+
+
 class Progress:
     """Writes the line again and again, where it goes to a terminal."""
 
@@ -77,6 +86,8 @@ class Progress:
     def _write(self, text: str, now: float) -> None:
         self._shown = now
         self._is_open = True
+        # One that went on in the next row couldn't be written over. The last column is the cursor's.
+        text = text[: width - 1] if (width := width_of(self.stream)) else text
         print(f"\r{text}\x1b[K", end="", file=self.stream, flush=True)
 
     def tell(self, text: str, is_last: bool = False) -> None:

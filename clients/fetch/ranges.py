@@ -10,7 +10,8 @@ from urllib.parse import quote, urljoin, urlsplit
 
 from .addresses import is_loopback
 from .layout import File, Layout
-from .web import AGENT, is_address
+from .reasons import reason_of
+from .urls import AGENT, is_address
 
 TIMEOUT = 20.0  # seconds without a byte
 MOST_REDIRECTS = 5
@@ -53,7 +54,7 @@ class Ranges:
                 yield from self._read_file(file, inside, count)
         except (OSError, http.client.HTTPException, ValueError) as error:
             self.close()
-            raise RangeFault(f"the web server gives nothing: {getattr(error, 'strerror', None) or error}") from error
+            raise RangeFault(f"the web server gives nothing: {reason_of(error)}") from error
         except RangeFault:
             self.close()
             raise

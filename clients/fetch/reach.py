@@ -4,10 +4,13 @@ from __future__ import annotations
 
 import sys
 import threading
+from typing import TYPE_CHECKING
 
-from .dht.node import Node
-from .local import Local
 from .options import Options
+
+if TYPE_CHECKING:  # who uses neither starts sooner without them
+    from .dht.node import Node
+    from .local import Local
 
 USUAL_PORT = 6881
 
@@ -32,6 +35,8 @@ class Reach:
         options = self.options
         with self._lock:
             if self._node is None and options.uses_dht and ":" not in options.bind and "the DHT" not in self._has_failed:
+                from .dht.node import Node
+
                 try:
                     self._node = Node(options.bind, options.port or USUAL_PORT, list(options.dht_nodes))
                     self._node.start()
@@ -44,6 +49,8 @@ class Reach:
         options = self.options
         with self._lock:
             if self._local is None and options.uses_local and ":" not in options.bind and "the local network" not in self._has_failed:
+                from .local import Local
+
                 try:
                     self._local = Local(options.bind)
                 except OSError as error:

@@ -39,14 +39,13 @@ def show_end(download: Transfer, is_done: bool, options: Options) -> None:
 
 def fetch(source: Source, options: Options, reach: Reach) -> bool:
     """One download; whether all that is wanted is there."""
-    download = Transfer(options, source.metainfo, reach)
-    for address, origin in source.peers:
-        download.parts.swarm.addresses.add(address, origin)
+    download = Transfer.of(source, options, reach)
     try:
         with ends_in_order(download.parts.swarm):
             download.prepare()
             is_done = download.run()
     except Interrupted:
+        print("fetch.py: interrupted while it checked what is there; the same command goes on", file=sys.stderr)
         return False
     finally:
         download.close()

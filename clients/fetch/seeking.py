@@ -30,6 +30,15 @@ READ = 1 << 16
 TICK = 0.2
 
 
+@dataclass(frozen=True)
+class Met:
+    """A connection for who goes on with it, and what its peer has said."""
+
+    connection: socket.socket
+    address: Address
+    heard: bytes
+
+
 @dataclass(eq=False)
 class Link:
     """A connection."""
@@ -45,8 +54,8 @@ class Link:
 class Seeker:
     """Asks peers until one has given the dictionary. The loop is `turn`, or `run` until it is there."""
 
-    def __init__(self, infohash: bytes, peer_id: bytes, source: str = "") -> None:
-        self.infohash, self.peer_id, self.source = infohash, peer_id, source
+    def __init__(self, infohash: bytes, peer_id: bytes, source: str = "", has_dht: bool = False) -> None:
+        self.infohash, self.peer_id, self.source, self.has_dht = infohash, peer_id, source, has_dht
         self.addresses, self.partings = Addresses(), Partings()
         self.links: set[Link] = set()
         self.info: bytes | None = None
@@ -95,7 +104,7 @@ class Seeker:
         def on_peers(peers: list[Address]) -> None:
             self.addresses.hear(peers, Origin.EXCHANGE, address)
 
-        link = Link(connection, address, Asking(self.infohash, self.peer_id, self._may_begin, on_peers), now, now)
+        link = Link(connection, address, Asking(self.infohash, self.peer_id, self._may_begin, on_peers, self.has_dht), now, now)
         self.links.add(link)
         self._selector.register(connection, selectors.EVENT_READ | selectors.EVENT_WRITE, link)
 
@@ -175,6 +184,17 @@ class Seeker:
             return
         if link.asking.unsent:
             self._selector.modify(link.connection, selectors.EVENT_READ | selectors.EVENT_WRITE, link)
+
+    def give(self, origins: set[Origin]) -> list[Met]:
+        """Leaves the connections to these peers to who goes on with them."""
+        met = []
+        for link in list(self.links):
+            known = self.addresses.known.get(link.address)
+            if known and known.origin in origins and (heard := link.asking.heard) is not None:
+                self._selector.unregister(link.connection)
+                self.links.discard(link)
+                met.append(Met(link.connection, link.address, heard))
+        return met
 
     def close(self) -> None:
         """Ends all connections."""

@@ -69,6 +69,7 @@ class Session:
         self.asks: dict[tuple[int, int], int] = {}  # of how many peers each block is asked now
         self.figures = Figures()
         self.now = time.monotonic()
+        self.has_new_interest = False  # since the swarm looked
         self._hear: dict[int, Callable[[Peer, memoryview], None]] = {
             Message.CHOKE: self._choke, Message.UNCHOKE: self._unchoke, Message.INTERESTED: self._interested,
             Message.NOT_INTERESTED: self._not_interested, Message.HAVE: self._have, Message.BITFIELD: self._bitfield,
@@ -117,7 +118,17 @@ class Session:
                     hear(peer, payload)
         except InputFault as fault:
             raise WireFault(str(fault)) from fault
+        finally:
+            self._measure(peer)
         self.ask(peer)
+
+    def _measure(self, peer: Peer) -> None:
+        """The rates hear of all blocks at once that came at once, since each word to them takes a while."""
+        if peer.came:
+            peer.down.add(peer.came, self.now)
+            peer.pace.came(peer.came, self.now)
+            peer.by_rate.came(peer.came, milliseconds(self.now))
+            peer.came = 0
 
     # What the peer says.
 
@@ -136,7 +147,7 @@ class Session:
 
     def _interested(self, peer: Peer, payload: memoryview) -> None:
         numbers_of(Message.INTERESTED, payload)
-        peer.interests_us = True
+        peer.interests_us = self.has_new_interest = True
 
     def _not_interested(self, peer: Peer, payload: memoryview) -> None:
         numbers_of(Message.NOT_INTERESTED, payload)
@@ -201,9 +212,7 @@ class Session:
         if not peer.takes(block):
             self.figures.unasked += 1
             return
-        peer.down.add(len(data), self.now)
-        peer.pace.came(len(data), self.now)
-        peer.by_rate.came(len(data), milliseconds(self.now))
+        peer.came += len(data)
         peer.block_came, peer.timeouts, peer.rests_until = self.now, 0, 0.0
         kind = self.content.arrived(peer.worker, piece, begin, data)
         if kind is Kind.REFUSED:

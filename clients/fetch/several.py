@@ -12,7 +12,7 @@ from dataclasses import dataclass, replace
 
 from .transfer import Interrupted, Transfer
 from .ending import told
-from .faults import Ended, Fault, fault_of
+from .faults import Ended, Fault, fault_of, named
 from .layout import printable
 from .limits import Bounds, bounds_of
 from .options import Options
@@ -98,14 +98,12 @@ class Several:
     def _say(self, job: Job, error: Exception) -> Ended:
         """Why a torrent failed. An error that isn't the user's to mend isn't hidden, and ends this one alone."""
         fault = fault_of(error) or Fault(Ended.NOT_DONE, f"this is a mistake in the program: {error!r}")
-        self._print(f"fetch.py: {printable(job.options.torrent)}: {printable(fault.text)}", is_wrong=True)
+        self._print(f"fetch.py: {printable(named(job.options.torrent, fault.text))}", is_wrong=True)
         return fault.status
 
     def _run(self, job: Job) -> Ended:
         source = obtain(job.options, self.reach, job.guard, lambda text: None)
-        download = job.download = Transfer(job.options, source.metainfo, self.reach, self.bounds)
-        for address, origin in source.peers:
-            download.parts.swarm.addresses.add(address, origin)
+        download = job.download = Transfer.of(source, job.options, self.reach, self.bounds)
         try:
             with job.guard(download.parts.swarm):
                 download.prepare()

@@ -2,30 +2,29 @@
 
 from __future__ import annotations
 
-import time
+import re
 from collections.abc import Callable
-from contextlib import AbstractContextManager, closing, suppress
+from contextlib import AbstractContextManager, closing
 from dataclasses import dataclass, field
+from typing import TYPE_CHECKING
 
-from . import magnet, web
-from .addresses import Origin, looked_up
-from .announcing import Announcer
+from . import magnet
+from .addresses import Origin
 from .blame import Address
-from .identity import NO_PORT, new_peer_id
-from .magnet import Magnet
-from .metainfo import MetainfoFault, is_private, metainfo_of
+from .metainfo import MetainfoFault
 from .options import Options
 from .reach import Reach
-from .seeking import Seeker
-from .tracker import Announce, Event
+from .signals import Loop
+from .urls import is_address
+
+if TYPE_CHECKING:
+    from .seeking import Met
 
 LARGEST_FILE = 1 << 28  # bytes of a metainfo file
 LARGEST_BY_WEB = 1 << 25
 WEB_SECONDS = 60.0
-UNKNOWN_LEFT = 1 << 14  # what a tracker is told to be left, where nobody knows: some give no peers to who needs nothing
 
-
-Guard = Callable[[Seeker], AbstractContextManager[None]]
+Guard = Callable[[Loop], AbstractContextManager[None]]
 
 
 class NotFound(Exception):
@@ -38,65 +37,12 @@ class Source:
 
     metainfo: bytes
     peers: list[tuple[Address, Origin]] = field(default_factory=list)
-
-
-class Following:
-    """A magnet link that is followed, turn by turn, until a peer has given the info dictionary."""
-
-    def __init__(self, link: Magnet, options: Options, reach: Reach) -> None:
-        self.link, self.options = link, options
-        self.seeker = seeker = Seeker(link.infohash, new_peer_id(), options.bind)
-        self.node = reach.node()
-        trackers = [[url] for url in link.trackers] if options.asks_trackers else []
-        seeker.announcer = Announcer(trackers, self._announce, seeker.wake, options.bind)
-        self._search = self.node.search(link.infohash, 0, seeker.hear_of) if self.node else None
-        self._local = reach.local()
-        self._announced = self._local.add(link.infohash, 0, seeker.hear_of) if self._local else None
-        self._began = time.monotonic()
-        for address in options.peers:
-            seeker.addresses.add(looked_up(address), Origin.USER)
-        for address in link.peers:
-            with suppress(ValueError):  # a name that nobody knows
-                seeker.addresses.add(looked_up(address), Origin.USER)
-
-    def _announce(self, event: Event) -> Announce:
-        return Announce(self.link.infohash, self.seeker.peer_id, NO_PORT, 0, 0, UNKNOWN_LEFT, event, 0)
-
-    def turn(self) -> Source | None:
-        """One turn of the loop; the torrent once it is there. Raises NotFound where nobody can give it, or the user ends it."""
-        seeker, give_up = self.seeker, self.options.give_up
-        if not (seeker.addresses.known or self.node or self._local or (seeker.announcer and seeker.announcer.tiers)):
-            raise NotFound("no peer is known: HOST:PORT behind OUT names one")
-        seeker.turn()
-        if seeker.info is not None:
-            return self._source(seeker.info)
-        if seeker.is_stopping or (give_up is not None and time.monotonic() - self._began > give_up):
-            note = seeker.announcer.note if seeker.announcer else ""
-            raise NotFound(f"nobody gave the info of the magnet link. {seeker.partings.line() or note or 'no peer was found'}")
-        return None
-
-    def _source(self, info: bytes) -> Source:
-        """The torrent, and the peers. A private one has those of its trackers and of the user alone (BEP 27)."""
-        metainfo = metainfo_of(info, [[url] for url in self.link.trackers], self.link.web_seeds)
-        origins = {Origin.USER, Origin.TRACKER} if is_private(metainfo) else set(Origin)
-        known = self.seeker.addresses.known.values()
-        return Source(metainfo, [(peer.address, peer.origin) for peer in known if peer.origin in origins])
-
-    @property
-    def line(self) -> str:
-        """How far it is."""
-        seeker = self.seeker
-        connected = sum(link.is_connected for link in seeker.links)
-        nodes = f", {self.node.nodes} nodes of the DHT" if self.node else ""
-        return f"looking for the torrent's info: {connected} of {len(seeker.addresses.known)} peers{nodes}"
+    met: list[Met] = field(default_factory=list)  # those of them that are connected
 
     def close(self) -> None:
-        """Ends."""
-        self.seeker.close()
-        if self.node and self._search:
-            self.node.end(self._search)
-        if self._local and self._announced:
-            self._local.remove(self._announced)
+        """Nobody goes on with the connections."""
+        for met in self.met:
+            met.connection.close()
 
 
 def is_magnet(torrent: str) -> bool:
@@ -104,28 +50,46 @@ def is_magnet(torrent: str) -> bool:
     return torrent.lower().startswith(magnet.PREFIX)
 
 
+def _no_file(torrent: str, error: OSError) -> Exception:
+    """What to tell the user where there is no such file, and what the word may have meant."""
+    if isinstance(error, IsADirectoryError):
+        return ValueError(f"{torrent} is a folder: TORRENT is a metainfo file, its http or https address, or a magnet link")
+    if "://" in torrent:
+        return ValueError(f"{torrent}: addresses of http and https can be read, and no others")
+    if re.fullmatch("[0-9a-fA-F]{40}|[a-zA-Z2-7]{32}", torrent):
+        return ValueError(f"{torrent}: no such file. If it is an infohash, its link is {magnet.PREFIX}?xt={magnet.TOPIC}{torrent}")
+    return error
+
+
 def read(options: Options) -> Source:
-    """The torrent of a file, or of an address of the web. Raises OSError and MetainfoFault."""
-    if web.is_address(options.torrent):
+    """The torrent of a file, or of an address of the web. Raises OSError, ValueError and MetainfoFault."""
+    if is_address(options.torrent):
+        from . import web
+
         try:
             metainfo = web.get(options.torrent, LARGEST_BY_WEB, WEB_SECONDS, options.bind)
         except web.WebFault as fault:
             raise MetainfoFault(f"{options.torrent}: {fault}") from fault
     else:
-        with open(options.torrent, "rb") as file:
-            metainfo = file.read(LARGEST_FILE)
+        try:
+            with open(options.torrent, "rb") as file:
+                metainfo = file.read(LARGEST_FILE)
+        except OSError as error:
+            raise _no_file(options.torrent, error) from error
     if not metainfo:
         raise MetainfoFault(f"{options.torrent}: the file is empty")
     return Source(metainfo)
 
 
 def obtain(options: Options, reach: Reach, guard: Guard, tell: Callable[[str], None]) -> Source:
-    """The torrent that the options name. Raises OSError, MetainfoFault and NotFound.
+    """The torrent that the options name. Raises OSError, ValueError, MetainfoFault and NotFound.
 
     `guard` is entered with what can be stopped while a magnet link is followed, and `tell` gets a line now and then.
     """
     if not is_magnet(options.torrent):
         return read(options)
+    from .following import Following  # here, so that all others start sooner
+
     with closing(Following(magnet.parse(options.torrent), options, reach)) as following, guard(following.seeker):
         while (source := following.turn()) is None:
             tell(following.line)

@@ -33,11 +33,16 @@ def _fill(handle: int, inside: int, room: memoryview) -> None:
 
 def told(path: str, error: OSError) -> StorageFault:
     """What to tell the user of an error of the system."""
+    where = error.filename or path
     if error.errno in (errno.ENOSPC, errno.EDQUOT):
-        return StorageFault(f"the disk is full: {path}")
+        return StorageFault(f"the disk is full: {path}. Make room, and the same command goes on; or name an OUT on another disk")
     if error.errno == errno.EFBIG:
         return StorageFault(f"the file is larger than the system allows: {path}")
-    return StorageFault(f"{error.filename or path}: {error.strerror or error}")
+    if error.errno in (errno.ENOTDIR, errno.EEXIST):
+        return StorageFault(f"{where}: a file is there, where a folder has to be. Move it away, or name another OUT")
+    if error.errno in (errno.EACCES, errno.EPERM, errno.EROFS):
+        return StorageFault(f"{where}: {error.strerror}. Name another OUT")
+    return StorageFault(f"{where}: {error.strerror or error}")
 
 
 class Storage:
@@ -66,6 +71,9 @@ class Storage:
     def _find(self, file: File) -> None:
         """Notes under which name the file is there, if it is."""
         path = self.whole_paths[file.number]
+        for there in (path, path + self.suffix):
+            if os.path.lexists(there) and not os.path.isfile(there):
+                raise StorageFault(f"{there} is there and is no file: move it away, or name another OUT")
         if os.path.isfile(path):
             self.whole.add(file.number)
         else:

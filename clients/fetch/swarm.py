@@ -97,6 +97,14 @@ class Swarm:
 
     # Connections begin and end.
 
+    def connect(self) -> None:
+        """Begins connections to those that may be tried now."""
+        connecting = sum(not peer.is_joined for peer in self.peers)
+        while connecting < MOST_CONNECTING and len(self.peers) < self.limits.peers and (known := self.addresses.due(self.session.now)):
+            known.is_in_use = True
+            connecting += 1
+            self._connect(known.address)
+
     def _connect(self, address: Address) -> None:
         """Begins a connection."""
         family = socket.AF_INET6 if ":" in address[0] else socket.AF_INET
@@ -135,6 +143,18 @@ class Swarm:
         peer = self._add(connection, address, is_incoming=False)
         peer.is_web = True
         return peer
+
+    def take_over(self, connection: socket.socket, address: Address, heard: bytes) -> None:
+        """Goes on with a connection on which we have said who we are, and the peer has said this."""
+        if len(self.peers) >= self.limits.peers or self.addresses.is_banned(address):
+            connection.close()
+            return
+        if known := self.addresses.known.get(address):
+            known.is_in_use = True
+        peer = self._add(connection, address, is_incoming=False)
+        peer.is_connected = True
+        peer.unsent.clear()
+        self._hear(peer, heard)
 
     def _add(self, connection: socket.socket, address: Address, is_incoming: bool) -> Peer:
         peer = Peer(connection, address, is_incoming, Inbound(self.session.layout.pieces), self.session.now)
@@ -225,6 +245,10 @@ class Swarm:
             return
         peer.is_connected = True
         self.down.take(len(data))
+        self._hear(peer, data)
+
+    def _hear(self, peer: Peer, data: bytes) -> None:
+        """The peer has said this."""
         try:
             if not peer.is_joined:
                 handshake = peer.inbound.handshake(data)
@@ -281,6 +305,7 @@ class Swarm:
         self.session.now = time.monotonic()
         self._settle()
         self.session.ask_idle()
+        self._look_at_clock()
         may_read = self.down.allows(self.session.now)
         if not may_read:
             self._held = self.session.now
@@ -288,8 +313,6 @@ class Swarm:
             if peer.wants:
                 self.session.uploads.serve(peer, self.session.now)
             self._watch(peer, may_read)
-        if self.session.now - self._ticked >= TICK:
-            self._tick()
 
     def _settle(self) -> None:
         for verdict in self.session.settle():
@@ -297,21 +320,25 @@ class Swarm:
                 self._ban(address)
             self.on_verdict(verdict)
 
+    def _look_at_clock(self) -> None:
+        """What is due; and who became interested is unchoked at once, where a slot is free."""
+        is_time = self.session.now - self._ticked >= TICK
+        if is_time:
+            self._tick()
+        if (is_time or self.session.has_new_interest) and self._has_new_interest():
+            self._choke()
+        self.session.has_new_interest = False
+
     def _tick(self) -> None:
         """What is due five times a second, once a second, and each round of choking."""
         now = self._ticked = self.session.now
-        connecting = sum(not peer.is_joined for peer in self.peers)
-        while connecting < MOST_CONNECTING and len(self.peers) < self.limits.peers and (known := self.addresses.due(now)):
-            known.is_in_use = True
-            connecting += 1
-            self._connect(known.address)
+        self.connect()
         if now - self._slowly_ticked >= SLOW_TICK:
             self._slowly_ticked = now
             for peer in list(self.peers):
                 self._look_after(peer)
             self.session.extensions.exchange_peers(self.session.peers.values(), now)
-        if now - self._choked >= ROUND or self._has_new_interest():
-            self._choked = now
+        if now - self._choked >= ROUND:
             self._choke()
 
     def _look_after(self, peer: Peer) -> None:
@@ -355,6 +382,7 @@ class Swarm:
     def _choke(self) -> None:
         """Chooses who is uploaded to."""
         now, is_seed = self.session.now, self.session.picker.has_wanted
+        self._choked = now
         candidates = [
             Candidate(peer, (peer.up if is_seed else peer.down).per_second(now), now - peer.began)
             for peer in self.session.peers.values() if peer.interests_us

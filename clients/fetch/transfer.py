@@ -5,7 +5,7 @@ from __future__ import annotations
 import os
 import time
 from collections.abc import Iterable
-from typing import Any
+from typing import TYPE_CHECKING, Any
 
 from .addresses import Origin, looked_up
 from .choosing import Chooser
@@ -22,8 +22,12 @@ from .place import PART_SUFFIX
 from .progress import Progress, State, line, size
 from .reach import Reach
 from .recorder import Recorder
-from .serving import Gate, Server, Urgent
+from .source import Source
 from .watch import Watch
+
+if TYPE_CHECKING:
+    from .seeking import Met
+    from .serving import Server
 
 SAVE_SECONDS = 2.0
 STATE_SECONDS = 0.25  # between two looks at how far it is
@@ -54,6 +58,20 @@ class Transfer:
         self._saved = self._stated = 0.0
         self._has_told = False  # that the state can't be written
         self._newest = self.began  # when a block came last
+        self._met: list[Met] = []
+
+    @classmethod
+    def of(cls, source: Source, options: Options, reach: Reach, bounds: Bounds | None = None) -> Transfer:
+        """The download of this torrent, which goes on with the peers that were met on the way to it."""
+        try:
+            transfer = cls(options, source.metainfo, reach, bounds)
+        except BaseException:
+            source.close()
+            raise
+        for address, origin in source.peers:
+            transfer.parts.swarm.addresses.add(address, origin)
+        transfer._met = source.met
+        return transfer
 
     def prepare(self) -> None:
         """Looks at what is on the disk, takes the room for the rest, and tells the picker what is wanted."""
@@ -68,7 +86,13 @@ class Transfer:
         for address in self.options.peers:
             parts.swarm.addresses.add(looked_up(address), Origin.USER)
         self.finding.start()
-        self.began = self._newest = time.monotonic()
+        self.began = self._newest = parts.session.now = time.monotonic()
+        if self.restored_count == 0:  # else the peers are to hear it in the first message, which is over
+            while self._met:
+                met = self._met.pop()
+                parts.swarm.take_over(met.connection, met.address, met.heard)
+        self.finding.tick(self.began)  # at once, and not behind the first wait of the loop
+        parts.swarm.connect()
 
     def _tell_check(self, done: int, pieces: int) -> None:
         """Shows how far the check at the start is. Raises Interrupted where the user ends it."""
@@ -78,6 +102,8 @@ class Transfer:
 
     def _serve(self, port: int) -> None:
         """Lets players read. Raises ValueError where the port can't be had."""
+        from .serving import Gate, Server, Urgent  # here, so that all others start sooner
+
         gate = Gate(self.parts.content, self.parts.swarm.wake)
         try:
             self.server = Server(port, gate)
@@ -185,13 +211,9 @@ class Transfer:
 
     def close(self) -> None:
         """Ends all, and writes the state."""
-        if self.keyboard:
-            self.keyboard.close()
-        if self.watch:
-            self.watch.close()
-        if self.server:
-            self.server.close()
-        self.finding.close()
+        for opened in (self.keyboard, self.watch, self.server, self.finding, *(met.connection for met in self._met)):
+            if opened:
+                opened.close()
         self.parts.stop()
         self._save()
         self.parts.storage.close()

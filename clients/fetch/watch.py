@@ -8,7 +8,7 @@ from collections.abc import Callable, Sequence
 from dataclasses import dataclass
 from typing import TextIO
 
-from .choosing import Chooser, Row
+from .choosing import Chooser, Row, filled
 from .peer import Peer
 from .progress import size
 from .session import Session
@@ -81,10 +81,11 @@ def line_of(peer: Peer, number: int, pieces: int, now: float) -> str:
     return paint("■ ", COLOURS[number % len(COLOURS)]) + text + numbers({piece for piece, _ in peer.asked})
 
 
+# Two lines, or three on a narrow terminal.
 LEGEND = (
-    "█ complete  ▒ asked of the peer with that colour  3 so many peers show it  ! nobody has it",
-    "state: c chokes us, i we are interested, C we choke it, I it is interested.  f lists the files, q ends",
-)
+    "keys: f lists the files, q ends", "█ complete", "▒ asked of the peer with that colour", "3 so many peers show it", "! nobody has it",
+    "state: c chokes us", "i we are interested", "C we choke it", "I it is interested",
+)  # fmt: skip
 HEAD = "  peer                  prog  has        down          up   asked  state pieces that are asked for"
 
 
@@ -97,7 +98,7 @@ def screen(session: Session, head: str, width: int, height: int) -> list[str]:
     lines += ["".join(cells[at : at + width]) for at in range(0, len(cells), width)]
     lines += ["", HEAD[:width]]
     lines += [clip(line_of(peer, number, session.layout.pieces, session.now), width) for number, peer in enumerate(peers)]
-    legend = [paint(line[:width], GREY) for line in LEGEND]
+    legend = [paint(line[:width], GREY) for line in filled(LEGEND, width)]
     return [*lines[: max(0, height - 2 - len(legend))], "", *legend][: height - 1]
 
 

@@ -8,8 +8,9 @@ import urllib.error
 import urllib.request
 from functools import partial
 
-AGENT = "piecepick-fetch"
-SCHEMES = ("http://", "https://")
+from .reasons import reason_of
+from .urls import AGENT
+
 READ = 1 << 16
 
 
@@ -50,11 +51,6 @@ def _opener(source: str) -> urllib.request.OpenerDirector:
     return opener
 
 
-def is_address(text: str) -> bool:
-    """Whether it is an address of the web."""
-    return text.lower().startswith(SCHEMES)
-
-
 def get(url: str, largest: int, seconds: float, source: str = "") -> bytes:
     """The whole answer, of so many bytes at most and in so many seconds. Raises WebFault."""
     end = time.monotonic() + seconds
@@ -72,8 +68,6 @@ def get(url: str, largest: int, seconds: float, source: str = "") -> bytes:
         with error:
             raise WebFault(f"the answer has status {error.code}") from error
     except urllib.error.URLError as error:
-        reason = error.reason
-        text = reason.strerror if isinstance(reason, OSError) and reason.strerror else str(reason)
-        raise WebFault(text) from error
+        raise WebFault(reason_of(error.reason) if isinstance(error.reason, Exception) else error.reason) from error
     except (OSError, http.client.HTTPException, ValueError) as error:
-        raise WebFault(str(error) or type(error).__name__) from error
+        raise WebFault(reason_of(error)) from error

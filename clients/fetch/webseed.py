@@ -29,6 +29,8 @@ class WebSeed:
     def __init__(self, url: str, ranges: Ranges, infohash: bytes, connection: socket.socket, on_fault: Callable[[str], None]) -> None:
         self.url, self.ranges, self.infohash, self.connection, self.on_fault = url, ranges, infohash, connection, on_fault
         self.inbound = Inbound(ranges.layout.pieces)
+        self._poll = select.poll()
+        self._poll.register(connection, select.POLLIN)
         self.wanted: OrderedDict[int, int] = OrderedDict()  # of each begin in the content the length
 
     def start(self) -> None:
@@ -60,7 +62,7 @@ class WebSeed:
 
     def _listen(self, connection: socket.socket) -> bool:
         """Takes what came, and waits for something where nothing is wanted; whether the other end is there."""
-        while not self.wanted or select.select([connection], [], [], 0)[0]:
+        while not self.wanted or self._poll.poll(0):
             data = connection.recv(READ)
             if not data:
                 return False

@@ -9,8 +9,6 @@ from .addresses import delay
 from .metainfo import is_folder, web_seeds_of
 from .parts import Parts
 from .peer import Peer
-from .ranges import Ranges
-from .webseed import WebSeed
 
 MOST = 4  # servers at a time
 
@@ -49,6 +47,9 @@ class WebSeeds:
         self._set_order()
 
     def _begin(self, server: Server) -> None:
+        from .ranges import Ranges  # here, so that all others start sooner
+        from .webseed import WebSeed
+
         parts = self.parts
         ours, theirs = socket.socketpair()
         ranges = Ranges(server.url, parts.name, parts.layout, is_folder(parts.picker), parts.options.bind)

@@ -4,6 +4,7 @@ from __future__ import annotations
 
 import contextlib
 import queue
+import select
 import socket
 import threading
 import time
@@ -29,7 +30,7 @@ def open_socket(host: str, port: int) -> socket.socket:
     except OSError:
         opened.close()
         raise
-    opened.settimeout(TICK)
+    opened.setblocking(False)
     return opened
 
 
@@ -42,6 +43,12 @@ class Node:
         self.first_nodes = first_nodes
         self.talk = Talk(self._send, [])
         self._orders: queue.SimpleQueue[Callable[[], None]] = queue.SimpleQueue()
+        self._woken, self._waker = socket.socketpair()
+        for end in (self._woken, self._waker):
+            end.setblocking(False)
+        self._poll = select.poll()
+        for heard in (self._socket, self._woken):
+            self._poll.register(heard, select.POLLIN)
         self._is_closing = False
         self._thread = threading.Thread(target=self._run, name="dht", daemon=True)
 
@@ -64,6 +71,8 @@ class Node:
     def _order(self, order: Callable[[], None]) -> None:
         if self._orders.qsize() < MOST_ORDERS:
             self._orders.put(order)
+            with contextlib.suppress(OSError):
+                self._waker.send(b"\0")
 
     def search(self, infohash: bytes, port: int, on_peers: Callable[[list[Address]], None]) -> Search:
         """Looks for peers from now on, and announces us where there is a port. The node's thread calls `on_peers`."""
@@ -94,22 +103,26 @@ class Node:
             self._socket.sendto(packet, address)
 
     def _run(self) -> None:
-        ticked = 0.0
         while not self._is_closing:
             self._receive()
-            now = time.monotonic()
-            if now - ticked >= TICK:
-                ticked = now
-                while not self._orders.empty():
-                    self._orders.get()()
-            self.talk.tick(now)
-        self._socket.close()
+            while not self._orders.empty():
+                self._orders.get()()
+            self.talk.tick(time.monotonic())
+        self._close()
 
     def _receive(self) -> None:
-        """Waits for a packet, but not for long."""
-        with contextlib.suppress(OSError):  # a wait that is over is one too
-            packet, address = self._socket.recvfrom(LARGEST)
-            self.talk.hear(packet, (str(address[0]), int(address[1])), time.monotonic())
+        """Waits for a packet or an order, but not for long."""
+        for handle, _ in self._poll.poll(1000 * TICK):
+            with contextlib.suppress(OSError):  # a damaged packet is one too
+                if handle == self._woken.fileno():
+                    self._woken.recv(LARGEST)
+                    continue
+                packet, address = self._socket.recvfrom(LARGEST)
+                self.talk.hear(packet, (str(address[0]), int(address[1])), time.monotonic())
+
+    def _close(self) -> None:
+        for opened in (self._socket, self._woken, self._waker):
+            opened.close()
 
     def close(self) -> None:
         """Ends."""
@@ -117,4 +130,4 @@ class Node:
         if self._thread.is_alive():
             self._thread.join(LAST_SECONDS)
         else:
-            self._socket.close()
+            self._close()

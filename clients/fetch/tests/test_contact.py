@@ -2,16 +2,25 @@
 
 from __future__ import annotations
 
+import contextlib
+import io
 import os
 import socket
 import subprocess
 import sys
 import time
 import unittest
+from collections.abc import Iterator
 from pathlib import Path
+from unittest.mock import patch
 
 from fetch import CLIENTS
 from fetch.ending import Ending, told
+from fetch.options import Options
+from fetch.reach import Reach
+from fetch.running import fetch
+from fetch.signals import Loop
+from fetch.source import Source
 from fetch.ticks import ticks
 
 from .support import CONTENT, Downloading, folder_torrent
@@ -67,7 +76,7 @@ class Single(Contact):
         while not Path(f"{self.out}.part").exists() and time.monotonic() < deadline:
             time.sleep(0.02)
         self.run_in("torrent", "out", status=4)
-        self.assertIn("another run of this program", self.errors)
+        self.assertIn("downloaded already, by this run or another one", self.errors)
         self.assertIsNone(first.poll())
         first.kill()
         first.communicate()
@@ -112,6 +121,23 @@ class Single(Contact):
         self.assertEqual([path.name for path in self.folder.iterdir() if path.suffix == ".lock"], [])
 
 
+class Early(Contact):
+    """An interrupt while it is checked what is there."""
+
+    def test_told(self) -> None:
+        @contextlib.contextmanager
+        def interrupt(loop: Loop) -> Iterator[None]:
+            loop.is_stopping = True
+            yield
+
+        self.out.write_bytes(CONTENT)
+        options, errors = Options(str(self.torrent_path), str(self.out), listens=False, asks_trackers=False, quiet=True), io.StringIO()
+        with patch("fetch.running.ends_in_order", interrupt), contextlib.redirect_stderr(errors):
+            self.assertFalse(fetch(Source(self.torrent), options, Reach(options)))
+        self.assertIn("interrupted while it checked what is there; the same command goes on", errors.getvalue())
+        self.assertEqual(self.out.read_bytes(), CONTENT)
+
+
 class Folder(Contact):
     """A torrent of many files, whose name is `folder`."""
 
@@ -143,6 +169,10 @@ class Told(unittest.TestCase):
         ending = Ending("a\x1b[2J", False, 1, 4, 1, 0, 0, 9.0, 0, knows_nobody=True)
         self.assertEqual(told(ending)[0], "a?[2J: 25.0% of 4 B are there; the same command goes on with it")
         self.assertIn("HOST:PORT", told(ending)[1])
+
+    def test_unwanted(self) -> None:
+        """All files may be left out while it runs."""
+        self.assertEqual(told(Ending("a", True, 0, 0, 0, 5, 0, 9.0, 1)), ["a: no file is wanted any more"])
 
     def test_round(self) -> None:
         """Each step is 1, 2 or 5 times a power of ten, and there are few of them."""

@@ -4,11 +4,13 @@ from __future__ import annotations
 
 import os
 import signal
+import socket
 import time
 import unittest
 from pathlib import Path
 from typing import Any, cast
 
+from fetch.addresses import Origin
 from fetch.peer import Peer
 from fetch.limits import Limit
 from fetch.wire import Inbound
@@ -106,6 +108,40 @@ class Nothing(Answers):
         self.assertEqual(self.said(self.peer(False)), b"")
 
     test_given = test_choke_rejects = test_cancel = test_interest = None  # type: ignore[assignment]  # tests of another state
+
+
+class AtOnce(Speaking):
+    """What doesn't wait for the next look at the clock."""
+
+    choices = {"bind": "127.0.0.1"}
+
+    def setUp(self) -> None:
+        super().setUp()
+        self.swarm = self.download.parts.swarm
+        self.swarm.turn()
+        self.swarm._ticked = self.session.now + 3600  # so that none of it is due
+
+    def test_unchoked(self) -> None:
+        """Who becomes interested is unchoked in the same turn, where a slot is free, and it is sent without a wait."""
+        ours, theirs = socket.socketpair()
+        self.addCleanup(theirs.close)
+        self.swarm.attach(ours, ("127.0.0.1", 1))
+        theirs.settimeout(10)
+        theirs.sendall(b"\x13BitTorrent protocol" + bytes(8) + self.download.parts.content.infohash + bytes(20) + message(INTERESTED))
+        end, came, whole = time.monotonic() + 10, b"", 68 + len(message(BITFIELD, data=flags_of(range(10))) + message(UNCHOKE))
+        for _ in range(3):  # the handshake is sent, what came is read, and what was said then is sent
+            self.swarm.turn()
+        while len(came) < whole and time.monotonic() < end:
+            came += theirs.recv(4096)
+        self.assertTrue(came.endswith(message(UNCHOKE)), came)
+
+    def test_connects(self) -> None:
+        """Where an address is found a connection is begun."""
+        listener = socket.create_server(("127.0.0.1", 0))
+        self.addCleanup(listener.close)
+        self.download.finding._hear_of([listener.getsockname()], Origin.LOCAL)
+        self.download.finding.tick(self.session.now)
+        self.assertEqual([peer.address for peer in self.swarm.peers], [listener.getsockname()])
 
 
 class Lost(Speaking):

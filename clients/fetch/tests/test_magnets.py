@@ -25,7 +25,7 @@ from fetch.wire import Inbound, WireFault
 
 from .spoken import Speaking, message
 from .support import (
-    BITFIELD, BLOCK_MESSAGE, CONTENT, EXTENDED, PIECE, PIECES, REQUEST, UNCHOKE, Downloading, flags_of, folder_torrent, messages, say,
+    BITFIELD, BLOCK_MESSAGE, CONTENT, EXTENDED, HAVE, PIECE, PIECES, REQUEST, UNCHOKE, Downloading, flags_of, folder_torrent, messages, say,
     single_torrent,
 )  # fmt: skip
 from .trackers import HttpTracker
@@ -132,6 +132,33 @@ class Assembled(unittest.TestCase):
         self.assertEqual((asking.unsent, asking.size), (metadata.spell(3, Word.REQUEST, 0), 5))
 
 
+class Heard(unittest.TestCase):
+    """What is kept of a peer's words, for who goes on with its connection."""
+
+    def test_kept(self) -> None:
+        """All but what is for the dictionary and other peers, with the message that isn't whole yet."""
+        asking = Asking(INFOHASH, b"-PP0000-abcdefghijkl", lambda size: True, lambda peers: None)
+        self.assertIsNone(asking.heard)
+        first = b"\x13BitTorrent protocol" + b"\0\0\0\0\0\x10\0\4" + INFOHASH + bytes(20)
+        hello = message(EXTENDED, data=b"\0d1:md11:ut_metadatai3ee13:metadata_sizei20000ee")
+        shown, begun = message(BITFIELD, data=b"\xf0") + message(UNCHOKE), b"\0\0\0\5\4\0"
+        asking.receive(first[:30])
+        asking.receive(first[30:] + hello)
+        asking.receive(message(EXTENDED, data=b"\2d8:msg_typei1e5:piecei0ee" + bytes(16384)) + shown + begun)
+        self.assertIsNone(asking.heard)  # what we say isn't said yet
+        asking.unsent.clear()
+        self.assertEqual(asking.heard, first + hello + shown + begun)
+
+    def test_bounded(self) -> None:
+        asking = Asking(INFOHASH, b"-PP0000-abcdefghijkl", lambda size: True, lambda peers: None)
+        asking.receive(b"\x13BitTorrent protocol" + b"\0\0\0\0\0\x10\0\0" + INFOHASH + bytes(20))
+        asking.unsent.clear()
+        for _ in range(100):
+            asking.receive(message(BITFIELD, data=bytes(1 << 13)))
+        self.assertIsNone(asking.heard)
+        self.assertLess(len(asking._heard), 1 << 19)
+
+
 class Room(unittest.TestCase):
     """How much may come at a time."""
 
@@ -208,6 +235,8 @@ class InfoPeer:
             told: dict[bytes, Value] = {b"m": {b"ut_metadata": 3}, b"metadata_size": size}
             say(connection, EXTENDED, b"\0" + (b"l" * 1000 if self.lies == "deep" else bencode(told)))
             say(connection, BITFIELD, flags_of(range(PIECES)))
+            if self.lies == "nonsense":
+                say(connection, HAVE, b"\xff" * 4)
             say(connection, UNCHOKE)
             self._answer_all(connection, stream)
 
@@ -259,8 +288,19 @@ class Followed(Downloading):
         self.assertEqual((self.out / "d").read_bytes(), CONTENT[100 + PIECE + 5000 :][: 20 * PIECE])
 
     def test_by_peer(self) -> None:
-        """A peer that the link names gives the dictionary, and the content."""
-        self.follow(f"&x.pe={self.info_peer().address}")
+        """A peer that the link names gives the dictionary, and by the same connection the content."""
+        peer = self.info_peer()
+        self.follow(f"&x.pe={peer.address}")
+        self.assert_whole()
+        self.assertEqual(peer.connections, 1)
+
+    def test_resumed(self) -> None:
+        """Where something is there, peers are to hear it in the first message, so there is a second connection."""
+        peer = self.info_peer()
+        self.follow(f"&x.pe={peer.address}", "--only", "5")
+        self.assertEqual(peer.connections, 1)
+        self.follow(f"&x.pe={peer.address}", "--only", "5,6")
+        self.assertEqual(peer.connections, 3)
         self.assert_whole()
 
     def test_by_tracker(self) -> None:
@@ -286,6 +326,14 @@ class Followed(Downloading):
         liars = [self.info_peer(lies) for lies in ("gigabytes", "none", "deep", "wrong", "rejects", "long")]
         honest = self.info_peer()
         self.follow("".join(f"&x.pe={peer.address}" for peer in (*liars, honest)))
+        self.assert_whole()
+
+    def test_nonsense(self) -> None:
+        """What a peer has said before the dictionary was there is heard then, and where it is nonsense that peer is let go."""
+        liar = self.info_peer("nonsense")
+        errors = self.follow(f"&x.pe={liar.address}", "--give-up", "3", status=1)
+        self.assertIn("1 peer: have: no such piece", errors)
+        self.follow(f"&x.pe={liar.address}&x.pe={self.info_peer().address}")
         self.assert_whole()
 
     def test_nobody(self) -> None:

@@ -27,10 +27,14 @@ class Read(unittest.TestCase):
     def test_refused(self) -> None:
         for words, told in (
             ("", "TORRENT is missing"),
-            ("a.torrent out 1.2.3.4", "no address"), ("a.torrent 1.2.3.4:99999", "no address"), ("--port 65536 a.torrent out", "65535"),
-            ("--level 1=8 a.torrent out", "no level"), ("--level 1 a.torrent out", "no whole number"), ("--only 3-1 a.torrent out", "names no files"),
+            ("a.torrent out 1.2.3.4", "1.2.3.4 has no port"), ("a.torrent one two", "OUT is 'one' already"),
+            ("a.torrent 1.2.3.4:99999", "no address"), ("--port 65536 a.torrent out", "65535"),
+            ("--level 1=8 a.torrent out", "no level"), ("--level 1 a.torrent out", "2=7 gives file 2"),
+            ("--only 3-1 a.torrent out", "names no files"),
             ("--only 1-99999999999 a.torrent out", "names no files"), ("--peers 0 a.torrent out", "1 to 500"), ("--up -1 a.torrent out", "--up"),
-            ("--seed nan a.torrent out", "no amount"), ("--nonsense a.torrent out", "--nonsense"),
+            ("--seed nan a.torrent out", "no number"), ("--seed x a.torrent out", "no number"),
+            ("--bind here a.torrent out", "no address in numbers"),
+            ("--nonsense a.torrent out", "--nonsense"),
         ):  # fmt: skip
             errors = io.StringIO()
             with self.subTest(words), contextlib.redirect_stderr(errors), self.assertRaises(SystemExit) as ended:
@@ -56,7 +60,7 @@ class Statuses(Downloading):
         self.out = self.out / "below"
         (self.folder / "out").write_bytes(b"a file in the way")
         self.fetch(status=4)
-        self.assertIn("/out: File exists", self.errors)
+        self.assertIn("/out: a file is there, where a folder has to be", self.errors)
 
     def test_port_in_use(self) -> None:
         seeder = self.seeder()

@@ -10,17 +10,19 @@ import re
 import signal
 import subprocess
 import sys
+import termios
 import unittest
 from pathlib import Path
 from typing import Any
 from xml.etree import ElementTree
 
 from fetch import CLIENTS
+from fetch.choosing import HELP, filled
 from fetch.picture import draw
 from fetch.progress import State, duration, line, size
 from fetch.serving import WrongRange, range_of
 from fetch.trace import Trace
-from fetch.watch import Cell, clip, glyph, numbers
+from fetch.watch import LEGEND, Cell, clip, glyph, numbers
 
 from .support import CONTENT, PIECE, Downloading, folder_torrent
 from .test_files import parts
@@ -127,6 +129,10 @@ class Drawn(unittest.TestCase):
     def test_width(self) -> None:
         self.assertEqual(clip("abc\x1b[31mdef\x1b[0m", 4), "abc\x1b[31md\x1b[0m")
         self.assertEqual(clip("abc", 10), "abc")
+        self.assertEqual(filled(["ab", "cd", "efg"], 6), ["ab  cd", "efg"])
+        for width in (80, 100, 200):
+            self.assertLessEqual(max(map(len, [*filled(LEGEND, width), *filled(HELP, width)])), width)
+        self.assertEqual(len(filled(LEGEND, 120)), 2)
 
 
 class Whole(Downloading):
@@ -140,9 +146,10 @@ class Whole(Downloading):
         texts = [text.text or "" for text in ElementTree.parse(path).iter(f"{SVG}text")]
         self.assertTrue(any("41 pieces, 161 of 161 blocks" in text for text in texts), texts)
 
-    def on_terminal(self, *words: str) -> str:
+    def on_terminal(self, *words: str, columns: int = 200) -> str:
         """What a download writes to a terminal."""
         ours, theirs = pty.openpty()
+        termios.tcsetwinsize(theirs, (24, columns))
         command = [sys.executable, "-B", str(Path(CLIENTS, "fetch.py")), "--no-dht", "--no-listen", *words]
         command += [str(self.torrent_path), str(self.out), self.seeder(delay=0.01).address]
         written = b""
@@ -159,6 +166,11 @@ class Whole(Downloading):
         written = self.on_terminal()
         self.assertRegex(written, r"\r *[1-9]\d?\.\d% of 2\.6 MB, .*/s down, 1 peer, 0:0\d left")
         self.assertEqual(self.on_terminal("--quiet"), "")
+
+    def test_narrow(self) -> None:
+        """The line keeps to one row, since none that goes on in the next row can be written over."""
+        lines = re.findall(r"\r([^\r\x1b]*)", self.on_terminal(columns=30))
+        self.assertEqual(max(len(line.rstrip("\n")) for line in lines), 29)
 
     def test_watch(self) -> None:
         """The drawing is on a screen of its own, which is given back."""

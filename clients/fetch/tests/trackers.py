@@ -5,9 +5,12 @@ from __future__ import annotations
 import contextlib
 import http.server
 import socket
+import ssl
 import struct
 import threading
 from urllib.parse import parse_qs, urlsplit
+
+from .webservers import Quiet
 
 
 def compact(addresses: list[tuple[str, int]]) -> bytes:
@@ -18,7 +21,9 @@ def compact(addresses: list[tuple[str, int]]) -> bytes:
 class HttpTracker:
     """Tells each peer the others of its torrent, and keeps what it was told. `reply` stands for all that where it isn't empty."""
 
-    def __init__(self, reply: bytes = b"", status: int = 200, host: str = "127.0.0.1", shortest: int = 60) -> None:
+    def __init__(
+        self, reply: bytes = b"", status: int = 200, host: str = "127.0.0.1", shortest: int = 60, context: ssl.SSLContext | None = None
+    ) -> None:
         self.reply, self.status, self.shortest = reply, status, shortest
         self.announces: list[dict[str, str]] = []
         self.only: tuple[str, int] | None = None  # where nobody else is named
@@ -42,8 +47,8 @@ class HttpTracker:
             def log_message(self, format: str, *arguments: object) -> None:
                 """Nothing is logged."""
 
-        self.server = http.server.ThreadingHTTPServer((host, 0), Handler)
-        self.url = f"http://{host}:{self.server.server_address[1]}/announce"
+        self.server = Quiet((host, 0), Handler)
+        self.url = f"{self.server.secure(context)}://{host}:{self.server.server_address[1]}/announce"
         threading.Thread(target=self.server.serve_forever, args=[0.05], daemon=True).start()
 
     def answer(self, told: dict[str, str], host: str) -> bytes:

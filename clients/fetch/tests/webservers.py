@@ -1,10 +1,11 @@
-"""A web server on the loopback interface that has files, with ranges as RFC 9110 has them, or behaves badly."""
+"""A web server on the loopback interface that has files, with ranges as RFC 9110 has them, or behaves badly. It may speak HTTPS."""
 
 from __future__ import annotations
 
 import contextlib
 import http.server
 import re
+import ssl
 import threading
 import time
 
@@ -19,11 +20,21 @@ class Quiet(http.server.ThreadingHTTPServer):
     def handle_error(self, request: object, client_address: object) -> None:
         """Nothing is said."""
 
+    def secure(self, context: ssl.SSLContext | None) -> str:
+        """Speaks HTTPS, where there is a context; how its addresses begin. Each connection's own thread takes the handshake."""
+        if context is None:
+            return "http"
+        self.socket = context.wrap_socket(self.socket, server_side=True, do_handshake_on_connect=False)
+        return "https"
+
 
 class WebServer:
     """Gives these files by their paths. `lies` says how it misbehaves."""
 
-    def __init__(self, files: dict[str, bytes], lies: str = "", host: str = "127.0.0.1", with_query: bool = True, rate: float = 0.0) -> None:
+    def __init__(
+        self, files: dict[str, bytes], lies: str = "", host: str = "127.0.0.1", with_query: bool = True, rate: float = 0.0,
+        context: ssl.SSLContext | None = None,
+    ) -> None:
         self.files, self.lies, self.with_query = files, lies, with_query
         self.rate = rate  # bytes a second of all connections; 0 is no limit
         self._due = 0.0  # when the next bytes may be sent
@@ -45,7 +56,7 @@ class WebServer:
                 """Nothing is logged."""
 
         self.server = Quiet((host, 0), Handler)
-        self.url = f"http://{host}:{self.server.server_address[1]}/"
+        self.url = f"{self.server.secure(context)}://{host}:{self.server.server_address[1]}/"
         threading.Thread(target=self.server.serve_forever, args=[0.05], daemon=True).start()
 
     def answer(self, handler: http.server.BaseHTTPRequestHandler) -> None:
