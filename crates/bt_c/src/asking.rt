@@ -1,4 +1,4 @@
-//! What the picker behind a handle tells, without the handle.
+//! What the picker behind a handle answers, without the handle.
 ghost use Rattle.std.specs.Prelude.{◌≡◌, ◌%◌, ◌^◌};
 ghost use Rattle.bt_history.specs.Epochs.{epoch};
 ghost use Rattle.bt_c.specs.Asking.{Audits, AuditsBy, CountsOutstanding, IsOutstanding, Reads, ReadsFrom, SaysOfContent};
@@ -15,16 +15,16 @@ use bt_meta::Block;
 use bt_picker::{AuditFault, ContentFault, Desk, audit};
 use std::alloc::Global;
 
-/// What a picker is asked.
+/// A question about the whole picker.
 #[derive(Clone, Copy, Debug, PartialEq, Eq)]
 pub enum Question {
     /// How many pieces there are.
     Pieces,
     /// How many workers there are.
     Workers,
-    /// Whether each piece is had.
+    /// Whether each piece is complete.
     Complete,
-    /// Whether each wanted piece is had.
+    /// Whether each wanted piece is complete.
     HasWanted,
     /// Whether all pieces of one level come in rising order.
     InOrder,
@@ -32,10 +32,10 @@ pub enum Question {
     OrderFrom,
 }
 
-/// What a picker is asked of a piece.
+/// A question about a piece.
 #[derive(Clone, Copy, Debug, PartialEq, Eq)]
 pub enum PieceQuestion {
-    /// Whether it is had.
+    /// Whether it is complete.
     Had,
     /// Whether it is full, and waits for its check.
     Waiting,
@@ -65,7 +65,7 @@ impl Held {
         }
     }
 
-    /// The number that rises when an answer of nothing to ask may have changed.
+    /// The number that rises when an answer of nothing to request may have changed.
     pub fn epoch(&self) -> u64
         ensures { result ≡ epoch (state self.now).setting (state self.now).history % 2 ^ 64 }
     {
@@ -134,7 +134,7 @@ impl Held {
         Ok(self.engine.picker().askers(piece, index))
     }
 
-    /// Whether the worker's peer shows a wanted piece that isn't had: 1 or 0.
+    /// Whether the worker's peer shows a wanted piece that isn't complete: 1 or 0.
     pub fn is_interesting(&self, worker: u32) -> Result<u32, Fault>
         ensures { SaysInteresting (state self.now) worker result }
     {
@@ -145,7 +145,7 @@ impl Held {
         Ok(u32::from(picker.is_interesting(worker)))
     }
 
-    /// How many blocks are asked of the worker's peer.
+    /// How many blocks are requested from the worker's peer.
     pub fn outstanding_count(&self, worker: u32) -> Result<u32, Fault>
         ensures { CountsOutstanding (state self.now) worker result }
     {
@@ -158,7 +158,7 @@ impl Held {
         Ok(picker.outstanding(worker).len() as u32)
     }
 
-    /// The block at this place among those that are asked of the worker's peer, the oldest request first.
+    /// The block at this place among those that are requested from the worker's peer, the oldest request first.
     pub fn outstanding(&self, worker: u32, place: u32) -> Result<Block, Fault>
         ensures { IsOutstanding (state self.now) worker place result }
     {
@@ -172,7 +172,7 @@ impl Held {
         }
     }
 
-    /// Writes the bytes of a piece that is had into a room of their number.
+    /// Writes the bytes of a complete piece into a buffer of their number.
     pub fn read(&self, piece: u32, room: &mut [u8]) -> Result<(), Fault>
         ensures { Reads self.now piece room.old room.new result }
     {
@@ -193,7 +193,7 @@ impl Held {
     }
 }
 
-/// The length of a piece's content, where that is had.
+/// The length of a piece's content, where that is complete.
 fn content_len(desk: &Desk, piece: u32) -> Result<u32, Fault>
     ensures { SaysOfContent desk.now piece result }
 {
@@ -209,7 +209,7 @@ fn content_len(desk: &Desk, piece: u32) -> Result<u32, Fault>
     Ok(torrent.piece_len(piece))
 }
 
-/// Writes the bytes of a piece that is had into a room of their number.
+/// Writes the bytes of a complete piece into a buffer of their number.
 fn read(desk: &Desk, piece: u32, room: &mut [u8]) -> Result<(), Fault>
     ensures { ReadsFrom desk.now piece room.old room.new result }
 {

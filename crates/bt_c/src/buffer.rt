@@ -1,10 +1,10 @@
-//! A caller's room as a place where bytes go.
+//! A caller's buffer as a place where bytes go.
 ghost use Rattle.std.specs.Prelude.{◌≡◌, ◌+◌, ◌-◌, ◌++◌, length, min, take};
 ghost use Rattle.bt_c.specs.Rooms.{has_refused, written_to};
 
 use bt_meta::{DeviceFault, Sink};
 
-/// A room that is filled from its front. A write into a full one is refused.
+/// A buffer that is filled from its front. A write into a full one is refused.
 #[derive(Drop)]
 pub struct Buffer<'a> {
     room: &'a mut [u8],
@@ -24,7 +24,7 @@ fn copy_from(room: &mut [u8], place: usize, bytes: &[u8]) -> usize
 }
 
 impl<'a> Buffer<'a> {
-    /// The room, of which nothing is filled yet.
+    /// The buffer, of which nothing is filled yet.
     pub fn new(room: &'a mut [u8]) -> Buffer<'a>
         ensures same_reference { result.room.ghost_name ≡ room.entry.ghost_name }
         ensures room { result.room.now ≡ room.old }

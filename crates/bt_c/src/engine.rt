@@ -16,12 +16,12 @@ use bytes::Bytes;
 use std::alloc::{AllocError, Global};
 use std::sync::Arc;
 
-/// What a picker keeps of what it is told.
+/// What a picker keeps of what is reported.
 #[derive(Clone, Copy, Debug, PartialEq, Eq)]
 pub enum Keeping {
     /// Neither content nor journal.
     Nothing,
-    /// The blocks of the pieces that are begun, until they are had.
+    /// The blocks of the pieces that are begun, until they are complete.
     Begun,
     /// A journal of all calls, with all content.
     Journal,
@@ -35,7 +35,7 @@ pub enum Engine {
     Desk(Desk),
 }
 
-/// Why an engine answers nothing to what it is told.
+/// Why an engine answers nothing to a call.
 #[derive(Clone, Copy, Debug, PartialEq, Eq)]
 pub enum Untold {
     NoMemory,
@@ -53,7 +53,7 @@ impl From<AllocError> for Untold {
     }
 }
 
-/// What is told, as a call that owns what it carries.
+/// What is reported, as a call that owns what it carries.
 fn owned(alloc: Global, told: Told<'_>) -> Result<Call, Untold>
     ensures ok { IfOk result (λ call. action_of call ≡ action_told told.entry) }
     ensures journal { result ≡ Err Untold.Journal → is_loss (action_told told.entry) ≡ true }
@@ -102,7 +102,7 @@ fn copy_of(alloc: Global, flags: &Bitfield) -> Result<Bitfield, AllocError>
 }
 
 impl Engine {
-    /// A picker of the torrent that was told nothing yet.
+    /// A picker of the torrent with no call made yet.
     pub fn new(
         alloc: Global,
         keeping: Keeping,
@@ -133,7 +133,7 @@ impl Engine {
         }
     }
 
-    /// The picker, which answers all that is asked of an engine.
+    /// The picker, which answers all questions about an engine.
     pub fn picker(&self) -> &Picker
         ensures { result.now ≡ state_of self.now }
     {
@@ -144,7 +144,7 @@ impl Engine {
         }
     }
 
-    /// Answers what a worker tells of its peer. Without memory, nothing changes, nor does a journal by what frees blocks with no check.
+    /// Answers what a worker reports of its peer. Without memory, nothing changes, nor does a journal by what frees blocks with no check.
     #[inline(always)]
     pub fn tell(&mut self, alloc: Global, worker: u32, told: Told<'_>) -> Result<Reply, Untold>
         requires { worker < (state_of self.old).setting.workers }

@@ -1,5 +1,5 @@
-//! What C calls. Each export tests what the picker requires of its caller, and tells by its status why it did nothing. Two have a condition,
-//! which no test could see to: that a digest is that of the bytes which it is told for.
+//! What C calls. Each export tests what the picker requires of its caller, and says by its status why it did nothing. Three have a condition,
+//! which no test could see to: a digest is that of the bytes that it is passed for, and a verdict says whether these have the piece's hash.
 
 mod digests;
 mod jobs;

@@ -22,21 +22,21 @@ pub enum Fault {
     BitsLength,
     /// A bit behind those of the pieces is set.
     SpareBits,
-    /// The room has another length than what is to be written.
+    /// The buffer has another length than what is to be written.
     Room,
     NoMemory,
-    /// The piece isn't had.
+    /// The piece isn't complete.
     Incomplete,
     /// A depth that isn't 1 to 64, a greatest one that isn't 1 to 4,096, no askers, more pieces at random than there are, more than 1,024 open
     /// ones, a `rush` above 4,096, or a `shown` above 1.
     Rules,
-    /// The piece isn't full, or is had already: there is nothing to check.
+    /// The piece isn't full, or is complete already: there is nothing to check.
     NotWaiting,
     /// The handle holds no job.
     NoJob,
     /// The job wasn't hashed.
     NotHashed,
-    /// Fewer blocks than that are asked of the peer.
+    /// Fewer blocks than that are requested from the peer.
     Place,
     /// The picker doesn't keep what the call needs, or keeps what makes it needless.
     Keeps,
@@ -48,7 +48,7 @@ pub enum Fault {
     Block,
     /// The block isn't held.
     NotHeld,
-    /// A block of the piece is held or asked of a peer, or it is had already.
+    /// A block of the piece is held or requested from a peer, or the piece is complete already.
     Begun,
     /// No such file of the torrent.
     File,

@@ -41,7 +41,7 @@ fn settled(reply: Reply) -> Result<Reply, Fault>
 }
 
 impl Held {
-    /// The check of the piece, if it is full and isn't had.
+    /// The check of the piece, if it is full and isn't complete.
     fn check(&self, alloc: Global, piece: u32) -> Result<Check, Fault>
         ensures { IsCheckOf self.now piece result }
     {
@@ -126,7 +126,7 @@ pub fn hash(alloc: Global, job: &mut JobHandle) -> Result<(), Fault>
     done
 }
 
-/// Writes the bytes of the check's piece into a room of their number.
+/// Writes the bytes of the check's piece into a buffer of their number.
 pub fn read(alloc: Global, job: &mut JobHandle, room: &mut [u8]) -> Result<(), Fault>
     ensures kept { job.new.check ≡ job.old.check }
     ensures reads { ReadsJob job.old.check room.old room.new result }
@@ -137,7 +137,7 @@ pub fn read(alloc: Global, job: &mut JobHandle, room: &mut [u8]) -> Result<(), F
     done
 }
 
-/// Writes the blocks into a room of their length.
+/// Writes the blocks into a buffer of their length.
 fn put_blocks(blocks: &[Bytes], room: &mut [u8]) -> Result<(), Fault>
     ensures { PutsBlocks blocks.now room.old room.new result }
 {
@@ -159,7 +159,7 @@ fn total_len(blocks: &[Bytes]) -> usize
     total
 }
 
-/// Copies the blocks into a room of their length.
+/// Copies the blocks into a buffer of their length.
 fn copy_blocks(blocks: &[Bytes], room: &mut [u8])
     requires len { length room.old ≡ length (concat blocks.now) }
     requires short { length room.old < 2 ^ 64 }

@@ -17,17 +17,17 @@ pub struct Options {
     pub keeps: u32,
     /// How many peers there may be at a time, 1 to 1,024.
     pub workers: u32,
-    /// How many blocks are asked of a peer until another depth is told, 1 to 64.
+    /// How many blocks are requested from a peer at a time until another depth is set, 1 to 64.
     pub depth: u32,
-    /// The greatest depth that may be told of a peer later, 1 to 4,096.
+    /// The greatest depth that may be set for a peer later, 1 to 4,096.
     pub deepest: u32,
-    /// How many pieces are had before the rarest come first.
+    /// How many pieces are complete before the rarest come first.
     pub random: u32,
-    /// Of how many peers one block is asked in endgame, 1 to 1,024.
+    /// From how many peers one block is requested at most in endgame, 1 to 1,024.
     pub askers: u32,
     /// How many pieces may be open before begun ones come first, 0 to 1,024.
     pub open: u32,
-    /// In endgame a block is asked again only of a peer that is asked for fewer blocks than these, 0 to 4,096: 4,096 is no bound.
+    /// In endgame a block is requested again only from a peer with fewer requests than these, 0 to 4,096: 4,096 is no bound.
     pub rush: u32,
     /// Whether endgame waits only for pieces that a joined peer shows: 0 for all wanted ones, 1 for these.
     pub shown: u32,

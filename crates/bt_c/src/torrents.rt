@@ -1,4 +1,4 @@
-//! What a torrent tells: numbers, and bytes in a caller's room.
+//! What a torrent says: numbers, and bytes in a caller's buffer.
 ghost use Rattle.std.specs.Prelude.{◌≡◌};
 ghost use Rattle.bt_bencode.specs.Reading.{seen};
 ghost use Rattle.bt_c.specs.Torrents.{PutsBytes, PutsHash, PutsIfAny, file_at, number_of_torrent, part_at};
@@ -8,7 +8,7 @@ use crate::fault::Fault;
 use crate::held::Held;
 use bt_meta::ListedFile;
 
-/// What a picker is asked of its torrent. Files and the names on a path are counted from 0.
+/// A question about the picker's torrent. Files and the names on a path are counted from 0.
 #[derive(Clone, Copy, Debug, PartialEq, Eq)]
 pub enum TorrentQuestion {
     /// The bytes of the content.
@@ -25,7 +25,7 @@ pub enum TorrentQuestion {
     PartLength(u64, u64),
 }
 
-/// Writes the bytes into a room of their number.
+/// Writes the bytes into a buffer of their number.
 fn put_bytes(bytes: &[u8], room: &mut [u8]) -> Result<(), Fault>
     ensures { PutsBytes bytes.now room.old room.new result }
 {
@@ -68,14 +68,14 @@ impl Held {
         })
     }
 
-    /// Writes the torrent's name into a room of its length.
+    /// Writes the torrent's name into a buffer of its length.
     pub fn put_name(&self, room: &mut [u8]) -> Result<(), Fault>
         ensures { PutsBytes self.now.torrent.value.name room.old room.new result }
     {
         put_bytes(self.torrent.name(), room)
     }
 
-    /// Writes a name on the path of a file into a room of its length.
+    /// Writes a name on the path of a file into a buffer of its length.
     pub fn put_part(&self, file: u64, part: u64, room: &mut [u8]) -> Result<(), Fault>
         ensures { PutsIfAny (part_at self.now.files.items file part) room.old room.new result }
     {

@@ -41,7 +41,7 @@ fn settle(alloc: Global, picker: &mut PickerHandle, job: &mut JobHandle) -> Resu
     outcome
 }
 
-/// Makes the job of checking a piece that is full and isn't had.
+/// Makes the job of checking a piece that is full and isn't complete.
 #[unsafe(no_mangle)]
 pub extern "C" fn piecepick_job_take(
     alloc: Global,

@@ -13,7 +13,7 @@ use crate::lending::lend;
 use crate::picker_handle::PickerHandle;
 use std::alloc::Global;
 
-/// Writes the piece into the buffer, if it is had.
+/// Writes the piece into the buffer, if it is complete.
 fn read(
     alloc: Global,
     picker: &mut PickerHandle,
@@ -47,7 +47,7 @@ pub extern "C" fn piecepick_settle_now(
     )
 }
 
-/// Writes the bytes of a piece that is had into a buffer of their number. Takes no memory.
+/// Writes the bytes of a complete piece into a buffer of their number. Takes no memory.
 #[unsafe(no_mangle)]
 pub extern "C" fn piecepick_read(
     alloc: Global,

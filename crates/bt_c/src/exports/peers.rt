@@ -1,4 +1,4 @@
-//! What a worker tells of its peer, and asks.
+//! What a worker reports of its peer, and queries.
 ghost use Rattle.std.specs.Prelude.{◌≡◌, ◌==◌, min, not};
 ghost use Rattle.bt_history.specs.declared.event.Action.TheVariants as actions;
 ghost use Rattle.bt_picker.specs.Told.{action_told};
@@ -15,7 +15,7 @@ use crate::picker_handle::PickerHandle;
 use bt_picker::{Reply, Told};
 use std::alloc::Global;
 
-/// The level that a number tells: one beyond 255 is told as 255, which is refused like it.
+/// The level of a number: one beyond 255 is passed on as 255, which is refused like it.
 pub fn level_of(number: u32) -> u8
     ensures { result ≡ min number 255 }
 {
@@ -191,8 +191,8 @@ pub extern "C" fn piecepick_haves(
     )
 }
 
-/// An `lt_donthave` message came (BEP 54): the peer has the piece no more. Blocks of the piece that were asked of the peer are asked of it
-/// no more, no cancel comes due, and any peer may be asked for them again.
+/// An `lt_donthave` message came (BEP 54): the peer has the piece no more. Blocks of the piece that are requested from the peer are
+/// released, no cancel comes due, and they may be requested again from any peer.
 #[unsafe(no_mangle)]
 pub extern "C" fn piecepick_lack(
     alloc: Global,
@@ -210,7 +210,7 @@ pub extern "C" fn piecepick_lack(
     )
 }
 
-/// From now on so many blocks may be asked of the peer at a time, until another number is told or the worker's next peer joins.
+/// From now on so many blocks may be requested from the peer at a time, until another number is set or the worker's next peer joins.
 #[unsafe(no_mangle)]
 pub extern "C" fn piecepick_depth(
     alloc: Global,
@@ -225,7 +225,7 @@ pub extern "C" fn piecepick_depth(
     tell(call(alloc, picker, worker, Told::Depth(depth)), answer)
 }
 
-/// From now on blocks of this level and of lower ones alone, 0 to 7, are requested of the peer, until another reach is told or the worker's next
+/// From now on blocks of this level and of lower ones alone, 0 to 7, are requested from the peer, until another reach is set or the worker's next
 /// peer joins.
 #[unsafe(no_mangle)]
 pub extern "C" fn piecepick_reach(
@@ -245,7 +245,7 @@ pub extern "C" fn piecepick_reach(
 }
 
 /// From now on the peer works alone, or, where `yes` is 0, like the others again. One that works alone begins pieces, and goes on with those that
-/// nobody else has to do with. Others are asked for none of the blocks of its own pieces until endgame.
+/// nobody else has to do with. No block of its own pieces is requested from others until endgame.
 #[unsafe(no_mangle)]
 pub extern "C" fn piecepick_alone(
     alloc: Global,
@@ -278,7 +278,7 @@ pub extern "C" fn piecepick_next(
     )
 }
 
-/// The block that begins `begin` bytes into the piece is asked of the peer no more: the peer rejected it (BEP 6), or the request was not sent.
+/// The block that begins `begin` bytes into the piece is requested from the peer no more: the peer rejected it (BEP 6), or the request was not sent.
 #[unsafe(no_mangle)]
 pub extern "C" fn piecepick_release(
     alloc: Global,
@@ -295,8 +295,8 @@ pub extern "C" fn piecepick_release(
     tell(call_at_in_place(alloc, picker, worker, piece, told), answer)
 }
 
-/// The request of the block that begins `begin` bytes into the piece takes too long. It stays asked of the peer, and other peers may be asked
-/// for it.
+/// The request of the block that begins `begin` bytes into the piece takes too long. It stays requested from the peer, and other peers may get
+/// one for it.
 #[unsafe(no_mangle)]
 pub extern "C" fn piecepick_late(
     alloc: Global,

@@ -1,4 +1,4 @@
-//! What is told of pieces, for all peers.
+//! What is set and reported of pieces, for all peers.
 ghost use Rattle.std.specs.Prelude.{◌≡◌, ◌==◌, min, not, IfSome};
 ghost use Rattle.bt_history.specs.declared.event.Action.TheVariants as actions;
 ghost use Rattle.bt_c.specs.declared.engine.Keeping.TheVariants as keeps;
@@ -123,7 +123,7 @@ pub extern "C" fn piecepick_discard(
     tell(call_at(alloc, picker, 0, piece, told), answer)
 }
 
-/// A picker that keeps nothing is told the SHA-1 of what arrived of a full piece.
+/// A picker that keeps nothing gets the SHA-1 of what arrived of a full piece.
 #[unsafe(no_mangle)]
 pub extern "C" fn piecepick_settle(
     alloc: Global,
@@ -142,7 +142,7 @@ pub extern "C" fn piecepick_settle(
     )
 }
 
-/// A picker that keeps nothing is told whether what arrived of a full piece has the metainfo's hash: where `passed` is 0, it hasn't.
+/// A picker that keeps nothing hears whether what arrived of a full piece has the metainfo's hash: where `passed` is 0, it hasn't.
 #[unsafe(no_mangle)]
 pub extern "C" fn piecepick_verdict(
     alloc: Global,
@@ -161,7 +161,7 @@ pub extern "C" fn piecepick_verdict(
     )
 }
 
-/// A picker that keeps nothing is told that a whole piece is there already, on a disk for which this worker stands, with the SHA-1 of its
+/// A picker that keeps nothing hears that a whole piece is there already, on a disk for which this worker stands, with the SHA-1 of its
 /// bytes. None of these is read.
 #[unsafe(no_mangle)]
 pub extern "C" fn piecepick_restore(

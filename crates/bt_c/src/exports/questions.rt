@@ -1,7 +1,8 @@
-//! The calls of C that ask a picker for a number.
+//! The calls of C that give a number of a picker.
 ghost use Rattle.std.specs.Prelude.{◌≡◌, ◌%◌, ◌^◌};
 ghost use Rattle.bt_history.specs.Epochs.{epoch};
-ghost use Rattle.bt_c.specs.Asking.{CountsOutstanding, IsOutstanding, Says, SaysAskers, SaysInteresting, SaysOfPiece, SaysRule, SaysSender, number_of, number_of_piece};
+ghost use Rattle.bt_c.specs.Asking.{CountsOutstanding, IsOutstanding, Says, SaysAskers, SaysInteresting, SaysOfPiece, SaysRule, SaysSender};
+ghost use Rattle.bt_c.specs.Asking.{number_of, number_of_piece};
 ghost use Rattle.bt_c.specs.Behind.{state};
 ghost use Rattle.bt_c.specs.declared.asking.Question.TheVariants as questions;
 ghost use Rattle.bt_c.specs.declared.asking.PieceQuestion.TheVariants as of_piece;
@@ -63,7 +64,7 @@ pub extern "C" fn piecepick_workers(
     tell_number(ask(alloc, picker, Question::Workers), number)
 }
 
-/// Whether each piece is had, wanted or not.
+/// Whether each piece is complete, wanted or not.
 #[unsafe(no_mangle)]
 pub extern "C" fn piecepick_is_complete(
     alloc: Global,
@@ -76,7 +77,7 @@ pub extern "C" fn piecepick_is_complete(
     tell_number(ask(alloc, picker, Question::Complete), number)
 }
 
-/// Whether each wanted piece is had.
+/// Whether each wanted piece is complete.
 #[unsafe(no_mangle)]
 pub extern "C" fn piecepick_has_wanted(
     alloc: Global,
@@ -115,7 +116,7 @@ pub extern "C" fn piecepick_order_from(
     tell_number(ask(alloc, picker, Question::OrderFrom), number)
 }
 
-/// Whether the piece was checked, and had its hash.
+/// Whether the piece is complete: it was checked, and has its hash.
 #[unsafe(no_mangle)]
 pub extern "C" fn piecepick_has_piece(
     alloc: Global,
@@ -133,7 +134,7 @@ pub extern "C" fn piecepick_has_piece(
     )
 }
 
-/// Whether the piece is full and isn't had: it waits for its check.
+/// Whether the piece is full and isn't complete: it waits for its check.
 #[unsafe(no_mangle)]
 pub extern "C" fn piecepick_is_waiting(
     alloc: Global,
@@ -223,7 +224,7 @@ pub extern "C" fn piecepick_blocks(
     )
 }
 
-/// The number that rises when a peer that had nothing to be asked for may have another answer.
+/// The number that rises when an idle peer may have another answer.
 #[unsafe(no_mangle)]
 pub extern "C" fn piecepick_epoch(alloc: Global, picker: &mut PickerHandle, number: &mut u64) -> u32
     ensures same { picker.new.held ≡ picker.old.held }
@@ -232,7 +233,7 @@ pub extern "C" fn piecepick_epoch(alloc: Global, picker: &mut PickerHandle, numb
     tell_large(lend(alloc, picker, |held| Ok(held.epoch())), number)
 }
 
-/// The worker whose peer brought a block that is held: the one of this index, counted from the front of its piece.
+/// The worker whose peer brought a block that is held: the one of this index, counted from 0.
 #[unsafe(no_mangle)]
 pub extern "C" fn piecepick_sender(
     alloc: Global,
@@ -250,8 +251,8 @@ pub extern "C" fn piecepick_sender(
     )
 }
 
-/// The number of the rule by which a block was requested, right after the answer that requests it: the one of this index, counted from the front
-/// of its piece.
+/// The number of the rule by which a block was requested, right after the answer that requests it: the one of this index, counted from 0 in its
+/// piece.
 #[unsafe(no_mangle)]
 pub extern "C" fn piecepick_rule(
     alloc: Global,
@@ -266,7 +267,7 @@ pub extern "C" fn piecepick_rule(
     tell_number(lend(alloc, picker, |held| held.rule(piece, index)), number)
 }
 
-/// Of how many peers a block is requested that aren't late with it: the one of this index, counted from the front of its piece. Right after the
+/// From how many peers a block is requested that aren't late with it: the one of this index, counted from 0. Right after the
 /// answer that requests it, the peer itself is one of them.
 #[unsafe(no_mangle)]
 pub extern "C" fn piecepick_askers(
@@ -285,7 +286,7 @@ pub extern "C" fn piecepick_askers(
     )
 }
 
-/// Whether the worker's peer shows a wanted piece that isn't had.
+/// Whether the worker's peer shows a wanted piece that isn't complete.
 #[unsafe(no_mangle)]
 pub extern "C" fn piecepick_is_interesting(
     alloc: Global,
@@ -302,7 +303,7 @@ pub extern "C" fn piecepick_is_interesting(
     )
 }
 
-/// How many blocks are asked of the worker's peer.
+/// How many blocks are requested from the worker's peer.
 #[unsafe(no_mangle)]
 pub extern "C" fn piecepick_outstanding(
     alloc: Global,

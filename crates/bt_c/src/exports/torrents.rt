@@ -1,4 +1,4 @@
-//! The calls of C that ask for what the metainfo file says: lengths, names, hashes and files.
+//! The calls of C that give what the metainfo file says: lengths, names, hashes and files.
 ghost use Rattle.std.specs.Prelude.{◌≡◌, None};
 ghost use Rattle.bt_c.specs.declared.torrents.TorrentQuestion.TheVariants as questions;
 ghost use Rattle.bt_c.specs.Outcomes.{AtOpen, TellsDone, TellsNumber};
