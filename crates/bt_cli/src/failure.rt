@@ -125,11 +125,16 @@ impl<'a> Failure<'a> {
 /// Why reading or writing the file of this name failed: the system's reason, without the number that std puts behind it.
 fn words_of_file(alloc: Global, name: &str, error: io::Error) -> Option<String> {
     let text = error.to_string(alloc).ok()?;
-    let reason = match text.split_once(" (os error ") {
-        Some((reason, _)) => reason,
-        None => &text,
-    };
+    let reason = without_number(&text);
     format!(in alloc; "piecepick: {name}: {reason}\n").ok()
+}
+
+/// A system's reason without the number that std puts behind it.
+fn without_number(text: &str) -> &str {
+    match text.split_once(" (os error ") {
+        Some((reason, _)) => reason,
+        None => text,
+    }
 }
 
 /// What is wrong with the file or the option of this name.
