@@ -1,5 +1,6 @@
 /* piecepick.hpp: piecepick.h for C++17. A call that does nothing throws an Error with its status. That is an exception and no error code since
-   refusals come as answers: a status is a mistake of the caller, or want of memory, and a client's loop meets none.
+   refusals come as answers: a status is a mistake of the caller, or want of memory. Three may come of what a peer sent: catch the Error of `bits`,
+   `haves`, `have`, `lack`, `arrived`, `release` and `late`, and at PIECE, BITS_LENGTH and SPARE_BITS let that peer go.
 
    What piecepick.h says of its calls holds here too: one call at a time at each picker and each job, also of those that change nothing. So
    none of them is const. */
@@ -27,7 +28,7 @@ struct Options : piecepick_options {
     Options() noexcept : piecepick_options(PIECEPICK_OPTIONS) {}
 };
 
-/* How many blocks should be in flight at a peer, by what came of it: tell Picker::depth what `follow` answers. The rule, the units and the borders
+/* How many blocks should be in flight at a peer, by what came from it: pass Picker::depth what `follow` answers. The rule, the units and the borders
    stand in piecepick.h. It is no part of a picker, and calls no library. */
 class DepthByRate {
 public:
@@ -36,9 +37,9 @@ public:
 
     /* Bytes of blocks came. That none came changes nothing. */
     void came(std::uint64_t bytes, std::uint64_t now) noexcept { piecepick_depth_by_rate_came(&peer_, bytes, now); }
-    /* A request took too long, and was told late. */
+    /* A request took too long, and was reported as late. */
     void timed_out() noexcept { piecepick_depth_by_rate_timed_out(&peer_); }
-    /* Tell at each request whether another peer that isn't late is asked for its block too. */
+    /* Report at each request whether its block is requested from another peer too, which isn't late. */
     void set_in_endgame(bool is_in_endgame) noexcept { piecepick_depth_by_rate_set_in_endgame(&peer_, std::uint32_t{is_in_endgame}); }
     /* The depth now. Ask for it once a second, or at each block. */
     std::uint32_t follow(std::uint64_t now) noexcept { return piecepick_depth_by_rate_follow(&peer_, now); }
@@ -83,15 +84,15 @@ private:
     std::size_t size_;
 };
 
-/* A room that is written. Its length must be just that of what goes into it. */
-class Room {
+/* A buffer that is written. Its length must be just that of what goes into it. */
+class Buffer {
 public:
-    Room(std::uint8_t *data, std::size_t size) noexcept : data_(size != 0 ? data : reinterpret_cast<std::uint8_t *>(this)), size_(size) {}
-    Room(std::vector<std::uint8_t> &bytes) noexcept : Room(bytes.data(), bytes.size()) {}
-    template <std::size_t N> Room(std::uint8_t (&bytes)[N]) noexcept : Room(bytes, N) {}
-    template <std::size_t N> Room(std::array<std::uint8_t, N> &bytes) noexcept : Room(bytes.data(), N) {}
-    Room(const Room &) = delete;
-    Room &operator=(const Room &) = delete;
+    Buffer(std::uint8_t *data, std::size_t size) noexcept : data_(size != 0 ? data : reinterpret_cast<std::uint8_t *>(this)), size_(size) {}
+    Buffer(std::vector<std::uint8_t> &bytes) noexcept : Buffer(bytes.data(), bytes.size()) {}
+    template <std::size_t N> Buffer(std::uint8_t (&bytes)[N]) noexcept : Buffer(bytes, N) {}
+    template <std::size_t N> Buffer(std::array<std::uint8_t, N> &bytes) noexcept : Buffer(bytes.data(), N) {}
+    Buffer(const Buffer &) = delete;
+    Buffer &operator=(const Buffer &) = delete;
     std::uint8_t *data() const noexcept { return data_; }
     std::size_t size() const noexcept { return size_; }
 
@@ -130,7 +131,7 @@ public:
     ~Job() { piecepick_job_close(&job_); }
 
     void hash() { check(piecepick_job_hash(get())); }
-    void read(const Room &room) { check(piecepick_job_read(get(), room.data(), room.size())); }
+    void read(const Buffer &buffer) { check(piecepick_job_read(get(), buffer.data(), buffer.size())); }
 
     /* For the calls of piecepick.h. */
     piecepick_job *get() const
@@ -145,7 +146,7 @@ private:
     piecepick_job *job_ = nullptr;
 };
 
-/* The picker of one download. One that was moved from is empty, and its calls throw SHUT. */
+/* The picker of one download. One that was moved from is empty, and its calls throw CLOSED. */
 class Picker {
 public:
     explicit Picker(Bytes metainfo, const Options &options = Options())
@@ -207,7 +208,7 @@ public:
     [[nodiscard]] Job job_take(std::uint32_t piece) { return Job(get(), piece); }
     [[nodiscard]] Answer settle(Job &job) { return answer(piecepick_job_settle, job.get()); }
     [[nodiscard]] Answer settle_now(std::uint32_t piece) { return answer(piecepick_settle_now, piece); }
-    void read(std::uint32_t piece, const Room &room) { check(piecepick_read(get(), piece, room.data(), room.size())); }
+    void read(std::uint32_t piece, const Buffer &buffer) { check(piecepick_read(get(), piece, buffer.data(), buffer.size())); }
     void audit() { check(piecepick_audit(get())); }
 
     /* What the picker knows. */
@@ -218,7 +219,7 @@ public:
     [[nodiscard]] bool is_in_order() { return number(piecepick_is_in_order) != 0; }
     [[nodiscard]] std::uint32_t order_from() { return number(piecepick_order_from); }
     [[nodiscard]] std::uint64_t epoch() { return number<std::uint64_t>(piecepick_epoch); }
-    [[nodiscard]] bool is_had(std::uint32_t piece) { return number(piecepick_is_had, piece) != 0; }
+    [[nodiscard]] bool has_piece(std::uint32_t piece) { return number(piecepick_has_piece, piece) != 0; }
     [[nodiscard]] bool is_waiting(std::uint32_t piece) { return number(piecepick_is_waiting, piece) != 0; }
     [[nodiscard]] std::uint32_t level(std::uint32_t piece) { return number(piecepick_level, piece); }
     [[nodiscard]] std::uint32_t availability(std::uint32_t piece) { return number(piecepick_availability, piece); }
@@ -227,6 +228,7 @@ public:
     [[nodiscard]] std::uint32_t sender(std::uint32_t piece, std::uint32_t index) { return number(piecepick_sender, piece, index); }
     [[nodiscard]] PickRule rule(std::uint32_t piece, std::uint32_t index) { return static_cast<PickRule>(number(piecepick_rule, piece, index)); }
     [[nodiscard]] std::uint32_t askers(std::uint32_t piece, std::uint32_t index) { return number(piecepick_askers, piece, index); }
+    [[nodiscard]] bool is_interesting(std::uint32_t worker) { return number(piecepick_is_interesting, worker) != 0; }
     [[nodiscard]] std::uint32_t outstanding(std::uint32_t worker) { return number(piecepick_outstanding, worker); }
     [[nodiscard]] Answer outstanding_at(std::uint32_t worker, std::uint32_t place) { return answer(piecepick_outstanding_at, worker, place); }
 
@@ -256,7 +258,7 @@ public:
     /* For the calls of piecepick.h. */
     ::piecepick_picker *get() const
     {
-        if (picker_ == nullptr) throw Error(PIECEPICK_E_SHUT);
+        if (picker_ == nullptr) throw Error(PIECEPICK_E_CLOSED);
         return picker_;
     }
 
@@ -267,15 +269,15 @@ private:
     }
     template <class Call, class... Given> Answer answer(Call call, Given... given)
     {
-        Answer told;
-        check(call(get(), given..., &told));
-        return told;
+        Answer result;
+        check(call(get(), given..., &result));
+        return result;
     }
     template <class Number = std::uint32_t, class Call, class... Given> Number number(Call call, Given... given)
     {
-        Number told;
-        check(call(get(), given..., &told));
-        return told;
+        Number result;
+        check(call(get(), given..., &result));
+        return result;
     }
     ::piecepick_picker *picker_ = nullptr;
 };

@@ -6,8 +6,8 @@ get_filename_component(_piecepick_include "../include" ABSOLUTE BASE_DIR "${_pie
 if(NOT TARGET piecepick::piecepick)
   add_library(piecepick::piecepick SHARED IMPORTED)
   set_target_properties(piecepick::piecepick PROPERTIES
-    IMPORTED_LOCATION "${_piecepick_lib}/libpiecepick.so.3"
-    IMPORTED_SONAME "libpiecepick.so.3"
+    IMPORTED_LOCATION "${_piecepick_lib}/libpiecepick.so.1"
+    IMPORTED_SONAME "libpiecepick.so.1"
     INTERFACE_INCLUDE_DIRECTORIES "${_piecepick_include}")
   add_library(piecepick::piecepick_static STATIC IMPORTED)
   set_target_properties(piecepick::piecepick_static PROPERTIES
@@ -15,7 +15,7 @@ if(NOT TARGET piecepick::piecepick)
     IMPORTED_LINK_INTERFACE_LANGUAGES "C"
     INTERFACE_INCLUDE_DIRECTORIES "${_piecepick_include}")
 endif()
-foreach(_piecepick_file "${_piecepick_lib}/libpiecepick.so.3" "${_piecepick_lib}/libpiecepick.a" "${_piecepick_include}/piecepick.h")
+foreach(_piecepick_file "${_piecepick_lib}/libpiecepick.so.1" "${_piecepick_lib}/libpiecepick.a" "${_piecepick_include}/piecepick.h")
   if(NOT EXISTS "${_piecepick_file}")
     set(piecepick_FOUND FALSE)
     set(piecepick_NOT_FOUND_MESSAGE "${_piecepick_file} is missing")
