@@ -19,7 +19,8 @@ from model import BLOCK_SIZE, NO_SUCH_PIECE, NOT_WAITING, Block, Model  # noqa: 
 from picks import Played, Script, Wrong  # noqa: E402
 from piecepick import Answer, Keeps, Kind, Picker, PiecepickError, Status  # noqa: E402
 
-OTHER_WORDS = {Kind.PIPE_FULL: "pipefull", Kind.NOTHING_LEFT: "nothing"}
+# Replies to which a script gives other words than the library.
+OTHER_WORDS = {Kind.PIPE_FULL: "pipefull", Kind.NOTHING_LEFT: "nothing", Kind.FULL: "completed", Kind.COMPLETE: "had"}
 # Causes that the library tells by a status, and the program as a refusal.
 STATUSES = {Status.PIECE: NO_SUCH_PIECE, Status.NOT_WAITING: NOT_WAITING}
 WITH_PIECE = ("have", "lack", "block", "settle", "release", "late", "level", "lose", "discard")
