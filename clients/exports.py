@@ -34,6 +34,7 @@ IN_C: dict[str, list[str]] = {
     "Global": [],
     "u32": ["uint32_t"],
     "u64": ["uint64_t"],
+    "usize": ["size_t"],
     "&mut u32": ["uint32_t *"],
     "&mut u64": ["uint64_t *"],
     "&mut PickerPointer": ["piecepick_picker **"],

@@ -205,6 +205,16 @@ static piecepick_kind bring(piecepick_picker *picker, uint32_t worker, uint32_t 
     return answer.kind;
 }
 
+/* A block whose bytes are elsewhere. */
+static piecepick_kind receive(piecepick_picker *picker, uint32_t worker, uint32_t piece, uint32_t begin)
+{
+    piecepick_answer answer;
+    uint32_t left = length_of(piece) - begin;
+    EQUAL(piecepick_received(picker, worker, piece, begin, left < BLOCK ? left : BLOCK, &answer), PIECEPICK_OK);
+    is_answer(__LINE__, "received", &answer, answer.kind, PIECEPICK_R_NONE, 0);
+    return answer.kind;
+}
+
 /* The client compares the digest itself, and tells what it found. */
 static piecepick_status tell_verdict(piecepick_picker *picker, uint32_t piece, const piecepick_digest *digest, piecepick_answer *answer)
 {
@@ -672,6 +682,10 @@ static piecepick_status restore_piece(piecepick_picker *picker, uint32_t worker,
     piecepick_digest digest = sha1(bytes_of(of), length_of(of));
     return piecepick_restore(picker, worker, piece, bytes_of(of), length_of(of), &digest, answer);
 }
+BY_NUMBER(resume_of, piecepick_resume(picker, at, 0, 1, answer))
+BY_NUMBER(resume_at, piecepick_resume(picker, 0, at, 1, answer))
+BY_NUMBER(received_of, piecepick_received(picker, at, 0, 0, BLOCK, answer))
+BY_NUMBER(received_at, piecepick_received(picker, 0, at, 0, BLOCK, answer))
 BY_NUMBER(restore_of, restore_piece(picker, at, 0, 0, answer))
 BY_NUMBER(restore_at, restore_piece(picker, 0, at, 0, answer))
 static piecepick_status settle_at(piecepick_picker *picker, uint32_t piece, piecepick_answer *answer)
@@ -697,6 +711,8 @@ static void no_worker(piecepick_picker *picker, uint32_t keeps, uint32_t worker)
     NO_NUMBER(piecepick_outstanding(picker, worker, &number), PIECEPICK_E_WORKER);
     NO_NUMBER(piecepick_is_interesting(picker, worker, &number), PIECEPICK_E_WORKER);
     NO_ANSWER(restore_of(picker, worker, &answer), keeps == PIECEPICK_KEEPS_NOTHING ? PIECEPICK_E_WORKER : PIECEPICK_E_KEEPS);
+    NO_ANSWER(resume_of(picker, worker, &answer), keeps == PIECEPICK_KEEPS_NOTHING ? PIECEPICK_E_WORKER : PIECEPICK_E_KEEPS);
+    NO_ANSWER(received_of(picker, worker, &answer), keeps == PIECEPICK_KEEPS_NOTHING ? PIECEPICK_E_WORKER : PIECEPICK_E_KEEPS);
     /* The worker comes before the piece, the flags and the level. */
     NO_ANSWER(piecepick_have(picker, worker, pieces, &answer), PIECEPICK_E_WORKER);
     NO_ANSWER(piecepick_lack(picker, worker, pieces, &answer), PIECEPICK_E_WORKER);
@@ -732,6 +748,8 @@ static void no_piece(piecepick_picker *picker, uint32_t keeps, uint32_t piece)
     NO_ANSWER(settle_at(picker, piece, &answer), is_nothing ? PIECEPICK_E_PIECE : PIECEPICK_E_KEEPS);
     NO_ANSWER(piecepick_verdict(picker, piece, 1, &answer), is_nothing ? PIECEPICK_E_PIECE : PIECEPICK_E_KEEPS);
     NO_ANSWER(restore_at(picker, piece, &answer), is_nothing ? PIECEPICK_E_PIECE : PIECEPICK_E_KEEPS);
+    NO_ANSWER(resume_at(picker, piece, &answer), is_nothing ? PIECEPICK_E_PIECE : PIECEPICK_E_KEEPS);
+    NO_ANSWER(received_at(picker, piece, &answer), is_nothing ? PIECEPICK_E_PIECE : PIECEPICK_E_KEEPS);
     NO_ANSWER(piecepick_settle_now(picker, piece, &answer), is_journal ? PIECEPICK_E_PIECE : PIECEPICK_E_KEEPS);
     EQUAL(piecepick_read(picker, piece, room, PIECE), is_journal ? PIECEPICK_E_PIECE : PIECEPICK_E_KEEPS);
     /* Where nothing is kept there are two causes, of which the contract doesn't say which comes first at this call. */
@@ -776,6 +794,10 @@ static void try_statuses(uint32_t keeps)
     NO_ANSWER(piecepick_late(picker, 1, pieces, 0, &answer), PIECEPICK_E_PIECE);
     if (is_nothing) REFUSED(restore_of(picker, 1, &answer), PIECEPICK_R_NOT_JOINED);
     else NO_ANSWER(restore_of(picker, 1, &answer), PIECEPICK_E_KEEPS);
+    if (is_nothing) REFUSED(resume_of(picker, 1, &answer), PIECEPICK_R_NOT_JOINED);
+    else NO_ANSWER(resume_of(picker, 1, &answer), PIECEPICK_E_KEEPS);
+    if (is_nothing) REFUSED(received_of(picker, 1, &answer), PIECEPICK_R_NOT_JOINED);
+    else NO_ANSWER(received_of(picker, 1, &answer), PIECEPICK_E_KEEPS);
     NUMBER(piecepick_outstanding(picker, 1, &number), 0);
     NO_ANSWER(piecepick_outstanding_at(picker, 1, 0, &answer), PIECEPICK_E_PLACE);
     NO_ANSWER(piecepick_outstanding_at(picker, 0, 1, &answer), PIECEPICK_E_PLACE);
@@ -2929,6 +2951,60 @@ static void try_restores(void)
     told("restores from a disk, whose bytes can't be read");
 }
 
+/* ---- Blocks and pieces of which the picker is told no byte. */
+
+static void try_without_bytes(void)
+{
+    const uint32_t disk = 1, last = pieces - 1, tail = length_of(last) - 1 & ~(BLOCK - 1u);
+    piecepick_picker *picker = open_for(PIECEPICK_KEEPS_NOTHING, 2), *twin = open_for(PIECEPICK_KEEPS_NOTHING, 2);
+    piecepick_answer answer;
+    uint32_t number;
+    uint64_t before;
+    come(picker, 0);
+    come(twin, 0);
+    before = picture(picker);
+    REFUSED(piecepick_received(picker, 0, 1, 1, BLOCK, &answer), PIECEPICK_R_NO_SUCH_BLOCK);
+    REFUSED(piecepick_received(picker, 0, 1, PIECE, BLOCK, &answer), PIECEPICK_R_NO_SUCH_BLOCK);
+    REFUSED(piecepick_received(picker, 0, 1, 0, BLOCK - 1, &answer), PIECEPICK_R_WRONG_LENGTH);
+    REFUSED(piecepick_received(picker, 0, 1, 0, BLOCK + 1, &answer), PIECEPICK_R_WRONG_LENGTH);
+    REFUSED(piecepick_received(picker, 0, 1, 0, (size_t)1 << 32 | BLOCK, &answer), PIECEPICK_R_WRONG_LENGTH);
+    REFUSED(piecepick_received(picker, 0, last, tail, BLOCK, &answer), PIECEPICK_R_WRONG_LENGTH);
+    EQUAL(picture(picker), before);
+    /* Each block is as one that came with its bytes: a picker that got these shows the same. */
+    EQUAL(receive(picker, 0, 1, 0), PIECEPICK_K_STORED);
+    EQUAL(bring(twin, 0, 1, 0, 0), PIECEPICK_K_STORED);
+    EQUAL(receive(picker, 0, 1, 0), PIECEPICK_K_DROPPED);
+    EQUAL(receive(picker, 0, last, tail), PIECEPICK_K_STORED);
+    EQUAL(bring(twin, 0, last, tail, 0), PIECEPICK_K_STORED);
+    EQUAL(receive(picker, 0, 1, BLOCK), PIECEPICK_K_FULL);
+    EQUAL(bring(twin, 0, 1, BLOCK, 0), PIECEPICK_K_FULL);
+    EQUAL(picture(picker), picture(twin));
+    NUMBER(piecepick_is_waiting(picker, 1, &number), 1);
+    GETS(piecepick_verdict(picker, 1, 1, &answer), PIECEPICK_K_COMPLETE);
+    GETS(piecepick_verdict(twin, 1, 1, &answer), PIECEPICK_K_COMPLETE);
+    /* Whole pieces, by a verdict: one that failed is as it was. */
+    REFUSED(piecepick_resume(picker, disk, 2, 1, &answer), PIECEPICK_R_NOT_JOINED);
+    GETS(piecepick_join(picker, disk, &answer), PIECEPICK_K_JOINED);
+    GETS(piecepick_join(twin, disk, &answer), PIECEPICK_K_JOINED);
+    NO_ANSWER(piecepick_resume(picker, disk, pieces, 1, &answer), PIECEPICK_E_PIECE);
+    GETS(piecepick_resume(picker, disk, 2, 0, &answer), PIECEPICK_K_FAILED);
+    GETS(restore_piece(twin, disk, 2, 3, &answer), PIECEPICK_K_FAILED);
+    NUMBER(piecepick_has_piece(picker, 2, &number), 0);
+    NO_NUMBER(piecepick_sender(picker, 2, 0, &number), PIECEPICK_E_NOT_HELD);
+    GETS(piecepick_resume(picker, disk, 2, 4, &answer), PIECEPICK_K_COMPLETE);
+    GETS(restore_piece(twin, disk, 2, 2, &answer), PIECEPICK_K_COMPLETE);
+    NUMBER(piecepick_sender(picker, 2, 1, &number), disk);
+    NO_ANSWER(piecepick_resume(picker, disk, 2, 1, &answer), PIECEPICK_E_BEGUN);
+    NO_ANSWER(piecepick_resume(picker, disk, last, 1, &answer), PIECEPICK_E_BEGUN);
+    EQUAL(picture(picker), picture(twin));
+    for (uint32_t piece = 3; piece < last; piece++) GETS(piecepick_resume(picker, disk, piece, 1, &answer), PIECEPICK_K_COMPLETE);
+    GETS(piecepick_resume(picker, disk, 0, 1, &answer), PIECEPICK_K_COMPLETE);
+    NUMBER(piecepick_is_complete(picker, &number), 0);
+    piecepick_close(&picker);
+    piecepick_close(&twin);
+    told("blocks and pieces of which no byte is passed are as those that came with bytes");
+}
+
 /* ---- Jobs. */
 
 static piecepick_job *take(piecepick_picker *picker, uint32_t piece)
@@ -3362,6 +3438,7 @@ int main(int argc, char **argv)
     try_texts();
     try_hashing();
     try_restores();
+    try_without_bytes();
     for (size_t kind = 0; kind < 3; kind++) {
         printf("a picker that keeps %s:\n", KEPT[kind]);
         for (size_t at = 0; at < sizeof TRIES / sizeof *TRIES; at++) {

@@ -9,7 +9,7 @@ from typing import Any
 from . import _texts
 
 ABI = 1
-VERSION_NUMBER = 10000
+VERSION_NUMBER = 10100
 
 
 class Status(IntEnum):
@@ -170,6 +170,7 @@ SIGNATURES: dict[str, tuple[Any, list[Any]]] = {
     "piecepick_haves": (c_uint32, [_PICKER, c_uint32, _DATA, c_size_t, _ANSWER]),
     "piecepick_lack": (c_uint32, [_PICKER, c_uint32, c_uint32, _ANSWER]),
     "piecepick_arrived": (c_uint32, [_PICKER, c_uint32, c_uint32, c_uint32, _DATA, c_size_t, _ANSWER]),
+    "piecepick_received": (c_uint32, [_PICKER, c_uint32, c_uint32, c_uint32, c_size_t, _ANSWER]),
     "piecepick_release": (c_uint32, [_PICKER, c_uint32, c_uint32, c_uint32, _ANSWER]),
     "piecepick_late": (c_uint32, [_PICKER, c_uint32, c_uint32, c_uint32, _ANSWER]),
     "piecepick_depth": (c_uint32, [_PICKER, c_uint32, c_uint32, _ANSWER]),
@@ -186,6 +187,7 @@ SIGNATURES: dict[str, tuple[Any, list[Any]]] = {
     "piecepick_settle": (c_uint32, [_PICKER, c_uint32, _DIGEST, _ANSWER]),
     "piecepick_verdict": (c_uint32, [_PICKER, c_uint32, c_uint32, _ANSWER]),
     "piecepick_restore": (c_uint32, [_PICKER, c_uint32, c_uint32, _DATA, c_size_t, _DIGEST, _ANSWER]),
+    "piecepick_resume": (c_uint32, [_PICKER, c_uint32, c_uint32, c_uint32, _ANSWER]),
     "piecepick_job_take": (c_uint32, [_PICKER, c_uint32, _JOB_AT]),
     "piecepick_job_hash": (c_uint32, [_JOB]),
     "piecepick_job_settle": (c_uint32, [_PICKER, _JOB, _ANSWER]),

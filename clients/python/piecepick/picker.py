@@ -380,6 +380,12 @@ class Picker:
                 _fail("arrived", status)
             return _answer(self._answer)
 
+    def received(self, worker: int, piece: int, begin: int, length: int) -> Answer:
+        """Keeps.NOTHING: as `arrived`, for a block of so many bytes that are elsewhere, in a cache or on their way to the disk."""
+        if not 0 <= length < 1 << 64:
+            raise ValueError(f"{length} isn't 0 to 2^64 - 1")
+        return self._told(LIBRARY.piecepick_received, _u32(worker), _u32(piece), _u32(begin), c_size_t(length))
+
     def release(self, worker: int, piece: int, begin: int) -> Answer:
         """The block that begins there, in bytes, is requested from the peer no more; REFUSED by NOT_REQUESTED where it wasn't."""
         return self._told(LIBRARY.piecepick_release, _u32(worker), _u32(piece), _u32(begin))
@@ -485,6 +491,10 @@ class Picker:
         """Keeps.NOTHING: the whole piece is on a disk, for which this worker stands. None of the data is read, so a mapping does."""
         lent, length = lend(data)
         return self._told(LIBRARY.piecepick_restore, _u32(worker), _u32(piece), lent, length, byref(_digest(digest)))
+
+    def resume(self, worker: int, piece: int, passed: bool) -> Answer:
+        """Keeps.NOTHING: as `restore`, for a whole piece that the caller has compared: whether it has the hash of the metainfo file."""
+        return self._told(LIBRARY.piecepick_resume, _u32(worker), _u32(piece), _u32(int(passed)))
 
     def job_take(self, piece: int) -> Job:
         """Keeps.BEGUN and Keeps.JOURNAL: the check of a full piece, to be hashed without the lock."""

@@ -95,7 +95,7 @@ class Opening(CallCase):
                 self.assert_status(status, lambda choice: Picker(METAINFO, **choice), {name: number})
 
     def test_version(self) -> None:
-        self.assertEqual(version(), "1.0.0")
+        self.assertEqual(version(), "1.1.0")
 
 
 class Peers(CallCase):
@@ -610,6 +610,27 @@ class Nothing(CallCase):
             self.assert_status(Status.BEGUN, made.restore, 2, 6, PARTS[6], DIGESTS[6])
             self.assertTrue(made.has_piece(6))
 
+    def test_resume(self) -> None:
+        with picker() as made:
+            self.assertEqual(made.resume(2, 6, True), refused(Reason.NOT_JOINED))
+            made.join(2)
+            self.assert_status(Status.WORKER, made.resume, 3, 6, True)
+            self.assert_status(Status.PIECE, made.resume, 2, PIECES, True)
+            self.assertEqual(made.resume(2, 6, False).kind, Kind.FAILED)
+            self.assertEqual(made.resume(2, 6, True).kind, Kind.COMPLETE)
+            self.assert_status(Status.BEGUN, made.resume, 2, 6, True)
+            self.assertEqual((made.has_piece(6), made.sender(6, 0)), (True, 2))
+
+    def test_received(self) -> None:
+        with with_peer() as made:
+            self.assertEqual(made.received(0, 1, 0, BLOCK - 1), refused(Reason.WRONG_LENGTH))
+            self.assertEqual(made.received(0, 1, 5, BLOCK), refused(Reason.NO_SUCH_BLOCK))
+            for length in (-1, 1 << 64):
+                self.assertRaises(ValueError, made.received, 0, 1, 0, length)
+            kinds = [made.received(0, 1, begin, BLOCK).kind for begin in (0, 0, BLOCK)]
+            self.assertEqual(kinds, [Kind.STORED, Kind.DROPPED, Kind.FULL])
+            self.assertEqual((made.is_waiting(1), made.verdict(1, True).kind), (True, Kind.COMPLETE))
+
     def test_what_it_lacks(self) -> None:
         with with_peer() as made:
             bring(made, 1, PARTS[1])
@@ -668,6 +689,8 @@ class Begun(CallCase):
             bring(made, 1, PARTS[1])
             self.assert_status(Status.KEEPS, made.settle, 1, DIGESTS[1])
             self.assert_status(Status.KEEPS, made.restore, 0, 2, PARTS[2], DIGESTS[2])
+            self.assert_status(Status.KEEPS, made.resume, 0, 2, True)
+            self.assert_status(Status.KEEPS, made.received, 0, 2, 0, BLOCK)
             self.assert_status(Status.KEEPS, made.settle_now, 1)
 
 

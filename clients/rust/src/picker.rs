@@ -121,6 +121,12 @@ impl Picker {
         self.answer(|picker, answer| unsafe { sys::piecepick_arrived(picker, worker, piece, begin, first, length, answer) })
     }
 
+    /// [`Keeps::Nothing`](crate::Keeps::Nothing): as [`arrived`](Self::arrived), for a block whose bytes are elsewhere, in a cache or on their
+    /// way to the disk. The picker is told how many they are.
+    pub fn received(&mut self, worker: u32, piece: u32, begin: u32, length: usize) -> Result<Answer, Error> {
+        self.answer(|picker, answer| unsafe { sys::piecepick_received(picker, worker, piece, begin, length, answer) })
+    }
+
     /// The block that begins there is requested from the peer no more: the peer rejected it (BEP 6), or the request was not sent. It may be
     /// requested again from any peer, and it is kept if it comes after all.
     pub fn release(&mut self, worker: u32, piece: u32, begin: u32) -> Result<Answer, Error> {
@@ -237,6 +243,12 @@ impl Picker {
         let (first, length) = (bytes.as_ptr(), bytes.len());
         let digest = sys::piecepick_digest { bytes: *digest };
         self.answer(|picker, answer| unsafe { sys::piecepick_restore(picker, worker, piece, first, length, &digest, answer) })
+    }
+
+    /// [`Keeps::Nothing`](crate::Keeps::Nothing): as [`restore`](Self::restore), for a whole piece that the caller has compared: whether it
+    /// has the hash of the metainfo file, which the library can't test.
+    pub fn resume(&mut self, worker: u32, piece: u32, passed: bool) -> Result<Answer, Error> {
+        self.answer(|picker, answer| unsafe { sys::piecepick_resume(picker, worker, piece, u32::from(passed), answer) })
     }
 
     /// [`Keeps::Begun`](crate::Keeps::Begun) and [`Keeps::Journal`](crate::Keeps::Journal): the check of a full piece, to be hashed away

@@ -113,6 +113,14 @@ extern "C" {
         bytes_len: usize,
         answer: *mut piecepick_answer,
     ) -> piecepick_status;
+    pub fn piecepick_received(
+        picker: *mut piecepick_picker,
+        worker: u32,
+        piece: u32,
+        begin: u32,
+        bytes_len: usize,
+        answer: *mut piecepick_answer,
+    ) -> piecepick_status;
     pub fn piecepick_release(
         picker: *mut piecepick_picker,
         worker: u32,
@@ -162,6 +170,13 @@ extern "C" {
         bytes: *const u8,
         bytes_len: usize,
         digest: *const piecepick_digest,
+        answer: *mut piecepick_answer,
+    ) -> piecepick_status;
+    pub fn piecepick_resume(
+        picker: *mut piecepick_picker,
+        worker: u32,
+        piece: u32,
+        passed: u32,
         answer: *mut piecepick_answer,
     ) -> piecepick_status;
     pub fn piecepick_job_take(picker: *mut piecepick_picker, piece: u32, job: *mut *mut piecepick_job) -> piecepick_status;

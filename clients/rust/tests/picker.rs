@@ -66,7 +66,7 @@ fn structs_are_those_of_c() {
     assert_eq!(size_of::<sys::piecepick_answer>(), 24);
     assert_eq!(size_of::<sys::piecepick_options>(), 40);
     assert_eq!(size_of::<sys::piecepick_digest>(), 20);
-    assert_eq!(piecepick::version(), 10_000);
+    assert_eq!(piecepick::version(), 10_100);
 }
 
 #[test]
@@ -683,6 +683,31 @@ fn what_a_disk_has_is_restored() {
     assert_eq!(picker.restore(2, 6, whole, &sha1(whole)), Ok(Answer::Complete));
     assert_eq!(picker.restore(2, 6, whole, &sha1(whole)), Err(Error::Begun));
     assert_eq!(with_peer(Keeps::Begun).restore(0, 6, whole, &sha1(whole)), Err(Error::Keeps));
+}
+
+#[test]
+fn what_a_disk_has_is_resumed() {
+    let mut picker = picker(Keeps::Nothing);
+    assert_eq!(picker.resume(2, 6, true), Ok(Answer::Refused(Reason::NotJoined)));
+    picker.join(2).unwrap();
+    assert_eq!(picker.resume(2, picker.pieces(), true), Err(Error::Piece));
+    assert_eq!(picker.resume(2, 6, false), Ok(Answer::Failed));
+    assert_eq!(picker.resume(2, 6, true), Ok(Answer::Complete));
+    assert_eq!(picker.resume(2, 6, true), Err(Error::Begun));
+    assert_eq!((picker.has_piece(6), picker.sender(6, 0)), (Ok(true), Ok(2)));
+    assert_eq!(with_peer(Keeps::Begun).resume(0, 6, true), Err(Error::Keeps));
+}
+
+#[test]
+fn a_block_is_received_without_its_bytes() {
+    let mut picker = with_peer(Keeps::Nothing);
+    assert_eq!(picker.received(0, 1, 0, BLOCK - 1), Ok(Answer::Refused(Reason::WrongLength)));
+    assert_eq!(picker.received(0, 1, 5, BLOCK), Ok(Answer::Refused(Reason::NoSuchBlock)));
+    assert_eq!(picker.received(0, 1, 0, BLOCK), Ok(Answer::Stored));
+    assert_eq!(picker.received(0, 1, 0, BLOCK), Ok(Answer::Dropped));
+    assert_eq!(picker.received(0, 1, BLOCK as u32, BLOCK), Ok(Answer::Full));
+    assert_eq!((picker.is_waiting(1), picker.verdict(1, true)), (Ok(true), Ok(Answer::Complete)));
+    assert_eq!(with_peer(Keeps::Begun).received(0, 1, 0, BLOCK), Err(Error::Keeps));
 }
 
 #[test]

@@ -11,7 +11,7 @@ use Rattle.bt_history.specs.declared.call.Reason.TheVariants.{NoSuchPiece, Wrong
 use Rattle.bt_history.specs.declared.call.Reply.TheVariants.{Failed, Had, Refused}
 use Rattle.bt_history.specs.Pieces.{content}
 use Rattle.bt_picker.specs.Checks.{is_right, settling, waits}
-use Rattle.bt_picker.specs.Restores.{Restores as Restores_at}
+use Rattle.bt_picker.specs.Restores.{IsToldOf, Restores as Restores_at}
 use Rattle.bt_picker.specs.declared.picker.restoring.Restored.{Restored}
 use Rattle.bt_picker.specs.declared.picker.restoring.Restored.TheVariants as restored
 use Rattle.sha1.specs.Sha1.{sha1}
@@ -98,6 +98,15 @@ Vouches h p digest = keeping h ≡ Nothing → waits (state h).setting (state h)
 abbrev pub VouchesThat : Held → ℕ → Bool → Type 0
 VouchesThat h p passed = keeping h ≡ Nothing → waits (state h).setting (state h).history p ≡ true
     → passed ≡ is_right (state h).setting (state h).history p
+
+-- worker w's peer brought a block, of which a picker that keeps nothing is told the length; or nothing changes
+abbrev pub Receives : Held → DeskState → ℕ → ℕ → ℕ → List ℕ → Outcome → Type 0
+Receives h e w p begin bytes (Err Keeps) = (keeping h ≢ Nothing) × (e ≡ state h)
+Receives h e w p begin bytes o = (keeping h ≡ Nothing) × MakesAt h e w p (Arrived p begin bytes) o
+
+-- these are as many bytes as piece p has, and it is said whether they have the metainfo's hash, where the picker keeps nothing
+abbrev pub VouchesWhole : Held → ℕ → List ℕ → Bool → Type 0
+VouchesWhole h p bytes passed = keeping h ≡ Nothing → IsPiece (state h) p → IsToldOf (state h).setting.torrent p bytes passed
 
 -- the digest is that of the bytes, where the picker keeps nothing
 abbrev pub VouchesFor : Held → List ℕ → List ℕ → Type 0

@@ -1,17 +1,18 @@
 //! Calls whose numbers are tested.
-ghost use Rattle.std.specs.Prelude.{◌≡◌};
+ghost use Rattle.std.specs.Prelude.{◌≡◌, length};
 ghost use Rattle.bt_history.specs.declared.event.Action.TheVariants as actions;
 ghost use Rattle.bt_picker.specs.Told.{action_told};
 ghost use Rattle.bt_c.specs.declared.engine.Keeping.TheVariants as keeps;
 ghost use Rattle.bt_c.specs.Behind.{state};
-ghost use Rattle.bt_c.specs.Calling.{Makes, MakesAt, MakesFlags, Restores, Settles, Spelling, Vouches, VouchesFor, VouchesThat, outcome_of};
+ghost use Rattle.bt_c.specs.Calling.{Makes, MakesAt, MakesFlags, Receives, Restores, Settles, Spelling, Vouches, VouchesFor, VouchesThat};
+ghost use Rattle.bt_c.specs.Calling.{VouchesWhole, outcome_of};
 ghost use Rattle.bt_c.specs.Outcomes.{StaysItself};
 
 use crate::engine::Engine;
 use crate::fault::Fault;
 use crate::held::Held;
 use bt_meta::{BitFault, Bitfield};
-use bt_picker::{Reason, Reply, Restored, Told};
+use bt_picker::{Reason, Reply, Restored, Told, Unseen};
 use std::alloc::Global;
 
 /// The flags that the bytes spell, one for each of so many pieces.
@@ -107,6 +108,32 @@ impl Held {
         Ok(self.engine.tell(alloc, 0, Told::Want(&flags))?)
     }
 
+    /// Tells a picker that keeps no content that a block came, of which the client has the bytes.
+    #[inline(always)]
+    pub fn receive(
+        &mut self,
+        worker: u32,
+        piece: u32,
+        begin: u32,
+        bytes: &Unseen,
+        len: usize,
+    ) -> Result<Reply, Fault>
+        requires { len ≡ length bytes.now.bytes }
+        ensures same { StaysItself self.old self.new }
+        ensures receives { Receives self.old (state self.new) worker piece begin bytes.now.bytes result }
+    {
+        let Engine::Picker(picker) = &mut self.engine else {
+            return Err(Fault::Keeps);
+        };
+        if worker >= picker.workers() {
+            return Err(Fault::Worker);
+        }
+        if piece >= picker.torrent().piece_count() {
+            return Err(Fault::Piece);
+        }
+        Ok(picker.received(worker, piece, begin, bytes, len))
+    }
+
     /// Settles a piece of a picker that keeps no content, by the digest of what arrived.
     pub fn settle(&mut self, piece: u32, digest: &[u8; 20]) -> Result<Reply, Fault>
         requires { Vouches self.old piece digest.now }
@@ -162,6 +189,27 @@ impl Held {
             return Err(Fault::Worker);
         }
         restored(picker.restore(worker, piece, bytes, digest))
+    }
+
+    /// Tells a picker that keeps no content that a whole piece is there, and whether it has the metainfo's hash.
+    pub fn resume(
+        &mut self,
+        worker: u32,
+        piece: u32,
+        bytes: &Unseen,
+        passed: bool,
+    ) -> Result<Reply, Fault>
+        requires { VouchesWhole self.old piece bytes.now.bytes passed }
+        ensures same { StaysItself self.old self.new }
+        ensures restores { Restores self.old (state self.new) worker piece bytes.now.bytes result }
+    {
+        let Engine::Picker(picker) = &mut self.engine else {
+            return Err(Fault::Keeps);
+        };
+        if worker >= picker.workers() {
+            return Err(Fault::Worker);
+        }
+        restored(picker.resume(worker, piece, bytes, passed))
     }
 
     /// Has a piece checked by a picker that keeps a journal.

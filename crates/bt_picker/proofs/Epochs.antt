@@ -1,18 +1,22 @@
 -- The epoch after one entry more.
-use Rattle.std.proofs.Common.{◌≡◌, ℕ, ◌==◌, ◌+◌, ◌%◌, ◌^◌, Bool, true, false, not, ◌&&◌, ◌||◌, [], ◌∷◌, refl, ap, sym, ◌∙◌}
+use Rattle.std.proofs.Common.{◌≡◌, ℕ, ◌==◌, ◌+◌, ◌%◌, ◌^◌, Bool, true, false, not, ◌&&◌, ◌||◌, List, [], ◌∷◌, None, Option, Some, refl, ap, sym, ◌∙◌}
 use Rattle.std.specs.Prelude.{if◌then◌else◌}
 use Rattle.std.proofs.Math.Nat.{mod-add-mod}
 use Rattle.bt_history.specs.declared.call.Reply.{Reply}
-use Rattle.bt_history.specs.declared.call.Reply.TheVariants.{Request}
+use Rattle.bt_history.specs.declared.call.Reason.{Reason}
+use Rattle.bt_history.specs.declared.call.Reply.TheVariants.{Completed, Dropped, Request, Stored}
 use Rattle.bt_history.specs.declared.event.Event.{Event}
 use Rattle.bt_history.specs.Epochs.{asked_alone, begins_endgame, epoch, is_request, stirs, stores_beyond, unsettles}
 use Rattle.bt_meta.specs.declared.block.Block.{Block}
 use Rattle.bt_history.specs.Counting.{any_below, count_below}
-use Rattle.bt_history.specs.History.{History, counts, same_begin}
-use Rattle.bt_history.specs.Legal.{place_at}
+use Rattle.bt_history.specs.History.{History, counts, same_begin, stores}
+use Rattle.bt_history.specs.Legal.{IsAllowed, Permits, answer_unless, arrived_answer, place_at, refusal}
+use Rattle.bt_history.specs.Next.{Exactly}
+use Rattle.bt_history.specs.declared.event.Action.TheVariants.{Arrived}
+use Rattle.bt_picker.specs.Checks.{arriving}
 use Rattle.bt_history.specs.Peers.{expected, overdue}
-use Rattle.bt_history.specs.Pieces.{asker_count, endgame, is_late_at_some}
-use Rattle.bt_history.specs.Setting.{Setting}
+use Rattle.bt_history.specs.Pieces.{asker_count, endgame, held, is_late_at_some}
+use Rattle.bt_history.specs.Setting.{Setting, each_block_of, some_block_of}
 use Rattle.bt_history.proofs.Delays.{expected_at, overdue_at}
 
 pub epoch_more : (s : Setting) (h : History) (e : Event) (x : Bool) → x ≡ stirs s h e
@@ -81,3 +85,41 @@ epoch_told s h e number x is stirred = ap (λ (n : ℕ). (n + (if x then 1 else 
 pub epoch_none : (s : Setting) → 0 ≡ epoch s [] % 2 ^ 64
 unfolding epoch
 epoch_none s = refl
+
+-- ---- a block that came
+
+-- what stores is no refusal
+pub stores_count : (r : Reply) → stores r ≡ true → counts r ≡ true
+stores_count Stored is = refl
+stores_count Completed is = refl
+stores_count r is = absurd (cc is)
+
+-- it asks for nothing
+block_asks_nothing : (s : Setting) (h : History) (w p begin : ℕ) (bytes : List ℕ) (reply : Reply) → IsAllowed s h (arriving w p begin bytes reply)
+    → is_request reply ≡ false
+unfolding IsAllowed arrived_answer
+block_asks_nothing s h w p begin bytes reply allowed =
+    by_cases (refusal s h w (Arrived p begin bytes)) (some_block_of s.torrent p (λ b. (b.begin == begin) && held h b))
+    (each_block_of s.torrent p (λ b. (b.begin == begin) || held h b)) allowed.1
+  where
+    by_cases : (cause : Option Reason) (x y : Bool)
+        → Permits s.torrent (answer_unless cause (if x then Exactly Dropped else if y then Exactly Completed else Exactly Stored)) reply
+        → is_request reply ≡ false
+    by_cases (Some reason) x y is = ap is_request is
+    by_cases None true y is = ap is_request is
+    by_cases None false true is = ap is_request is
+    by_cases None false false is = ap is_request is
+
+-- it stirs where it is stored and wasn't asked of its own peer alone
+pub block_stirs : (s : Setting) (h : History) (w p begin : ℕ) (bytes : List ℕ) (reply : Reply) → IsAllowed s h (arriving w p begin bytes reply)
+    → (stores reply && not (asked_alone s h w p begin)) ≡ stirs s h (arriving w p begin bytes reply)
+block_stirs s h w p begin bytes reply allowed =
+    by_cases (counts reply) (is_request reply) (stores reply)
+    (not (endgame s h) && endgame s (arriving w p begin bytes reply ∷ h)) (not (asked_alone s h w p begin))
+    (block_asks_nothing s h w p begin bytes reply allowed) (stores_count reply)
+  where
+    by_cases : (c r x g y : Bool) → r ≡ false → (x ≡ true → c ≡ true) → (x && y) ≡ (c && (false || ((r && g) || (x && y))))
+    by_cases c true x g y none counted = absurd (cc none)
+    by_cases true false x g y none counted = refl
+    by_cases false false true g y none counted = absurd (cc (counted refl))
+    by_cases false false false g y none counted = refl

@@ -117,7 +117,7 @@ brought_none d w p bytes peer fresh =
     }
 
 -- the length of a part is that of its block
-part_len : (s : Setting) (p k : ℕ) (bytes : List ℕ) → length bytes ≡ piece_len s.torrent p →
+pub part_len : (s : Setting) (p k : ℕ) (bytes : List ℕ) → length bytes ≡ piece_len s.torrent p →
     (block s.torrent p k).len ≡ length (part bytes (block_size * k))
 part_len s p k bytes len =
     sym (length-take block_size (drop (block_size * k) bytes)

@@ -1,10 +1,12 @@
 -- What a restore does: a worker's peer, such as a disk, brings a whole piece that nobody has begun, and its check is told.
-use Rattle.std.specs.Prelude.{ℕ, zero, suc, ◌*◌, ◌≡◌, ◌==◌, ◌||◌, not, List, Option, None, Some, length, nat_le, take, drop, if◌then◌else◌}
-use Rattle.bt_meta.specs.Layout.{block_count, block_size, piece_count, piece_len}
+use Rattle.std.specs.Prelude.{ℕ, zero, suc, ◌*◌, ◌≡◌, ◌==◌, ◌||◌, not, Bool, List, Option, None, Some, length, nat_le, take, drop, if◌then◌else◌}
+use Rattle.sha1.specs.Sha1.{sha1}
+use Rattle.bt_meta.specs.Layout.{Layout, block_count, block_size, hash_of, piece_count, piece_len}
 use Rattle.bt_history.specs.declared.call.Reason.TheVariants.{NoSuchPiece, NotJoined, WrongLength}
 use Rattle.bt_history.specs.declared.call.Reply.{Reply}
 use Rattle.bt_history.specs.History.{is_had}
 use Rattle.bt_history.specs.Peers.{joined}
+use Rattle.bt_history.specs.Legal.{same_bytes}
 use Rattle.bt_history.specs.Pieces.{content, unbegun}
 use Rattle.bt_picker.specs.Checks.{arriving, settling}
 use Rattle.bt_picker.specs.Positions.{DeskState, Gains}
@@ -14,6 +16,11 @@ use Rattle.bt_picker.specs.declared.picker.restoring.Restored.TheVariants.{Begun
 -- the bytes of the block that begins there, of those of its piece
 abbrev pub part : List ℕ → ℕ → List ℕ
 part bytes begin = take block_size (drop begin bytes)
+
+-- these are as many bytes as piece p has, and it is said of them whether they have the metainfo's hash
+pub record IsToldOf (t : Layout) (p : ℕ) (bytes : List ℕ) (passed : Bool) : Type 0 where
+  pub whole : length bytes ≡ piece_len t p
+  pub verdict : passed ≡ same_bytes (sha1 bytes) (hash_of t p)
 
 -- the peer of worker w brought the first n blocks of piece p, in order
 abbrev pub Brings : DeskState → DeskState → ℕ → ℕ → List ℕ → ℕ → Type 0

@@ -5,12 +5,13 @@ ghost use Rattle.bt_history.specs.Setting.{setting_of};
 ghost use Rattle.bt_history.specs.Legal.{IsAllowed};
 ghost use Rattle.bt_history.specs.History.{counts};
 ghost use Rattle.bt_check.specs.Checked as checked;
-ghost use Rattle.bt_picker.specs.Checks.{settling};
+ghost use Rattle.bt_picker.specs.Checks.{arriving, settling};
 ghost use Rattle.bt_picker.specs.Told.{action_told, checking, telling};
 ghost use Rattle.bt_picker.specs.Tables.{AreTables, entered_call};
 
 use crate::past::Past;
 use crate::told::Told;
+use crate::unseen::Unseen;
 use bt_check::Verdict;
 use bt_history::{MOST_LEVEL, Reply, Rules};
 use bt_meta::Torrent;
@@ -88,6 +89,28 @@ fn put(tables: &mut Tables, past: &Past, worker: u32, told: &Told<'_>, reply: Re
         Told::Lose(piece) => tables.put_loss(*piece),
         Told::Discard { piece, begin } => tables.put_discard(*piece, *begin),
     }
+}
+
+/// Enters a block that came and whose bytes the caller has, with its reply.
+pub fn enter_block(
+    tables: &mut Tables,
+    past: &Past,
+    worker: u32,
+    piece: u32,
+    begin: u32,
+    bytes: &Unseen,
+    reply: Reply,
+)
+    requires are { AreTables tables.old past.now.entries }
+    requires allowed { IsAllowed tables.old.setting past.now.entries (arriving worker piece begin bytes.now.bytes reply) }
+    ensures are { AreTables tables.new (arriving worker piece begin bytes.now.bytes reply ∷ past.now.entries) }
+    ensures setting { tables.new.setting ≡ tables.old.setting }
+{
+    let _bytes = bytes;
+    if reply.is_refusal() {
+        return;
+    }
+    tables.put_arrival(worker, piece, begin, reply);
 }
 
 /// Enters the worker's verdict, with its reply.

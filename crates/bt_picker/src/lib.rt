@@ -30,6 +30,7 @@ mod stash;
 mod stirring;
 mod told;
 mod unread;
+mod unseen;
 
 pub use auditing::{AuditFault, audit};
 pub use bt_check::{Job, Verdict};
@@ -43,3 +44,4 @@ pub use keeper::Keeper;
 pub use picker::{Picker, Restored};
 pub use settled::Settled;
 pub use told::Told;
+pub use unseen::Unseen;

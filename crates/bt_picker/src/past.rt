@@ -4,6 +4,7 @@ ghost use Rattle.std.specs.Borrow.{ftrue};
 ghost use Rattle.bt_history.specs.declared.event.Event.{Event};
 
 use crate::told::Told;
+use crate::unseen::Unseen;
 use bt_check::Verdict;
 use bt_history::Reply;
 use bt_meta::Torrent;
@@ -29,6 +30,14 @@ pub enum Note<'a> {
     Told(u32, &'a Told<'a>, Reply),
     /// The worker's check by a verdict, with its reply.
     Checked(u32, &'a Verdict, Reply),
+    /// The worker's block came, whose bytes the caller has, with its reply.
+    Received {
+        worker: u32,
+        piece: u32,
+        begin: u32,
+        bytes: &'a Unseen,
+        reply: Reply,
+    },
     /// A check of the bytes that are held of the piece.
     Settled {
         worker: u32,

@@ -23,6 +23,7 @@ ghost use Rattle.bt_picker.specs.Positions.{DeskState, Gains};
 ghost use Rattle.bt_picker.specs.Tables.{AreTables};
 ghost use Rattle.bt_picker.specs.Unbegun.{ListsUnbegun, unasked_count};
 
+mod receiving;
 mod restoring;
 
 use crate::entries::{enter, enter_check, enter_verdict, new_tables};
@@ -449,7 +450,7 @@ fn begins_endgame(reply: Reply, before: bool, after: bool) -> bool
 }
 
 /// The number, one more where something stirs.
-fn risen(number: u64, stirs: bool) -> u64
+pub(crate) fn risen(number: u64, stirs: bool) -> u64
     ensures { result ≡ (number + (if stirs then 1 else 0)) % 2 ^ 64 }
 {
     if stirs {

@@ -2,15 +2,17 @@
 
 ghost use Rattle.std.specs.Prelude.{◌≡◌, ◌<◌, ◌==◌, ◌&&◌, ◌||◌, not, true};
 ghost use Rattle.bt_meta.specs.Layout.{block, block_count, piece_count};
-ghost use Rattle.bt_history.specs.Epochs.{asked_alone, stores_beyond, unsettles};
+ghost use Rattle.bt_history.specs.Epochs.{asked_alone, stirs, stores_beyond, unsettles};
 ghost use Rattle.bt_history.specs.History.{counts};
 ghost use Rattle.bt_history.specs.Legal.{IsAllowed};
 ghost use Rattle.bt_history.specs.Pieces.{asker_count, is_late_at_some};
 ghost use Rattle.bt_history.specs.Setting.{some_block_of};
+ghost use Rattle.bt_picker.specs.Checks.{arriving};
 ghost use Rattle.bt_picker.specs.Told.{action_told, telling};
 
 use crate::position::Position;
 use crate::told::Told;
+use crate::unseen::Unseen;
 use bt_history::Reply;
 
 impl<'a> Position<'a> {
@@ -63,5 +65,16 @@ impl<'a> Position<'a> {
             return false;
         }
         told.unsettles() || self.stores_beyond(worker, told, reply)
+    }
+
+    /// Whether a block that came, with this reply, may change what is answered to a peer that had nothing to be asked for.
+    #[inline(always)]
+    pub fn stirs_with(&self, worker: u32, piece: u32, begin: u32, bytes: &Unseen, reply: Reply) -> bool
+        requires worker { worker < self.now.setting.workers }
+        requires allowed { IsAllowed self.now.setting self.now.history (arriving worker piece begin bytes.now.bytes reply) }
+        ensures { result ≡ stirs self.now.setting self.now.history (arriving worker piece begin bytes.now.bytes reply) }
+    {
+        let _bytes = bytes;
+        reply.is_stored() && !self.is_asked_alone(worker, piece, begin)
     }
 }

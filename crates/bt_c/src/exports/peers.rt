@@ -1,9 +1,9 @@
 //! What a worker reports of its peer, and queries.
-ghost use Rattle.std.specs.Prelude.{◌≡◌, ◌==◌, min, not};
+ghost use Rattle.std.specs.Prelude.{◌≡◌, ◌==◌, ℕ, List, length, min, not};
 ghost use Rattle.bt_history.specs.declared.event.Action.TheVariants as actions;
 ghost use Rattle.bt_picker.specs.Told.{action_told};
 ghost use Rattle.bt_c.specs.Behind.{state};
-ghost use Rattle.bt_c.specs.Calling.{Makes, MakesAt, MakesFlags};
+ghost use Rattle.bt_c.specs.Calling.{Makes, MakesAt, MakesFlags, Receives};
 ghost use Rattle.bt_c.specs.Outcomes.{AtHandle, Tells};
 
 use super::tell::tell;
@@ -12,7 +12,7 @@ use crate::fault::Fault;
 use crate::handle::{Handle, holding};
 use crate::lending::lend;
 use crate::picker_handle::PickerHandle;
-use bt_picker::{Reply, Told};
+use bt_picker::{Reply, Told, Unseen};
 use std::alloc::Global;
 
 /// The level of a number: one beyond 255 is passed on as 255, which is refused like it.
@@ -334,4 +334,47 @@ pub extern "C" fn piecepick_arrived(
         bytes,
     };
     tell(call_at_in_place(alloc, picker, worker, piece, told), answer)
+}
+
+/// A `piece` message came, and a picker that keeps nothing is told how many bytes the block has: the client has stored them, or will.
+#[unsafe(no_mangle)]
+pub extern "C" fn piecepick_received(
+    alloc: Global,
+    picker: &mut PickerHandle,
+    worker: u32,
+    piece: u32,
+    begin: u32,
+    bytes_len: usize,
+    answer: &mut Answer,
+) -> u32
+    ghost bytes: { List ℕ }
+    requires { bytes_len ≡ length bytes }
+    ensures { Tells (λ h e o. Receives h e worker piece begin bytes o)
+        picker.old.held picker.new.held result answer.new }
+{
+    let unseen = Unseen::these();
+    tell(
+        receive(alloc, picker, worker, piece, begin, &unseen, bytes_len),
+        answer,
+    )
+}
+
+/// Tells the picker of a block that came.
+#[inline(always)]
+fn receive(
+    alloc: Global,
+    picker: &mut PickerHandle,
+    worker: u32,
+    piece: u32,
+    begin: u32,
+    bytes: &Unseen,
+    len: usize,
+) -> Result<Reply, Fault>
+    requires { len ≡ length bytes.now.bytes }
+    ensures { AtHandle (λ h e o. Receives h e worker piece begin bytes.now.bytes o) picker.old.held picker.new.held result }
+{
+    let mut held = picker.take(alloc).ok_or(Fault::Closed)?;
+    let outcome = held.receive(worker, piece, begin, bytes, len);
+    *picker = holding(held);
+    outcome
 }

@@ -1,8 +1,8 @@
 //! What is set and reported of pieces, for all peers.
-ghost use Rattle.std.specs.Prelude.{◌≡◌, ◌==◌, min, not, IfSome};
+ghost use Rattle.std.specs.Prelude.{◌≡◌, ◌==◌, ℕ, List, min, not, IfSome};
 ghost use Rattle.bt_history.specs.declared.event.Action.TheVariants as actions;
 ghost use Rattle.bt_c.specs.declared.engine.Keeping.TheVariants as keeps;
-ghost use Rattle.bt_c.specs.Calling.{Makes, MakesAt, MakesFlags, Restores, Settles, Vouches, VouchesFor, VouchesThat};
+ghost use Rattle.bt_c.specs.Calling.{Makes, MakesAt, MakesFlags, Restores, Settles, Vouches, VouchesFor, VouchesThat, VouchesWhole};
 ghost use Rattle.bt_c.specs.Outcomes.{Tells};
 
 use super::peers::{call, call_at, level_of};
@@ -11,7 +11,7 @@ use crate::answer::Answer;
 use crate::digest::Digest;
 use crate::lending::lend;
 use crate::picker_handle::PickerHandle;
-use bt_picker::Told;
+use bt_picker::{Told, Unseen};
 use std::alloc::Global;
 
 /// From now on just these pieces are to be downloaded, spelled as in a `bitfield` message.
@@ -181,6 +181,31 @@ pub extern "C" fn piecepick_restore(
         alloc,
         picker,
         |held| held.restore(worker, piece, bytes, &digest.bytes),
+    );
+    tell(outcome, answer)
+}
+
+/// A picker that keeps nothing hears that a whole piece is there already, on a disk for which this worker stands, and whether it has the
+/// metainfo's hash: where `passed` is 0, it hasn't.
+#[unsafe(no_mangle)]
+pub extern "C" fn piecepick_resume(
+    alloc: Global,
+    picker: &mut PickerHandle,
+    worker: u32,
+    piece: u32,
+    passed: u32,
+    answer: &mut Answer,
+) -> u32
+    ghost bytes: { List ℕ }
+    requires { IfSome picker.old.held (λ h. VouchesWhole h piece bytes (not (passed == 0))) }
+    ensures { Tells (λ h e o. Restores h e worker piece bytes o)
+        picker.old.held picker.new.held result answer.new }
+{
+    let unseen = Unseen::these();
+    let outcome = lend(
+        alloc,
+        picker,
+        |held| held.resume(worker, piece, &unseen, passed != 0),
     );
     tell(outcome, answer)
 }

@@ -1,6 +1,6 @@
 //! A start from what is on the disk: a whole piece at a time, whose bytes nobody reads.
 
-ghost use Rattle.std.specs.Prelude.{◌≡◌, ◌<◌, ◌≤◌, ◌*◌, false, length, option_map, true};
+ghost use Rattle.std.specs.Prelude.{◌≡◌, ◌<◌, ◌≤◌, ◌*◌, length, None, option_map, true};
 ghost use Rattle.sha1.specs.Sha1.{sha1};
 ghost use Rattle.bt_meta.specs.Layout.{block, block_count, block_size, piece_count, piece_len};
 ghost use Rattle.bt_history.specs.Peers.{joined};
@@ -8,10 +8,10 @@ ghost use Rattle.bt_history.specs.Pieces.{content, unbegun};
 ghost use Rattle.bt_history.specs.declared.call.Reply.{Reply};
 ghost use Rattle.bt_picker.specs.Checks.{arriving, waits};
 ghost use Rattle.bt_picker.specs.Positions.{Gains};
-ghost use Rattle.bt_picker.specs.Restores.{Brings, Restores, part, restore_fault, restored_by};
+ghost use Rattle.bt_picker.specs.Restores.{Brings, IsToldOf, Restores, part, restore_fault, restored_by};
 
 use super::Picker;
-use crate::told::Told;
+use crate::unseen::Unseen;
 use bt_history::{Reason, Reply};
 use bt_meta::BLOCK_SIZE;
 
@@ -40,8 +40,33 @@ impl Picker {
             return fault;
         }
         let passed = self.has_hash(piece, digest);
-        self.bring_whole(worker, piece, bytes);
-        restored_by(self.settle_waiting(worker, piece, passed))
+        let unseen = Unseen::these();
+        self.restore_whole(worker, piece, &unseen, passed)
+    }
+
+    /// A whole piece is there already, as with `restore`, and the caller has compared its hash: the picker is told whether it is the
+    /// metainfo's. So a client that looked over its files hands over no byte and no digest.
+    pub fn resume(&mut self, worker: u32, piece: u32, bytes: &Unseen, passed: bool) -> Restored
+        requires { piece < piece_count self.old.setting.torrent → IsToldOf self.old.setting.torrent piece bytes.now.bytes passed }
+        ensures { Restores self.old self.new worker piece bytes.now.bytes result }
+    {
+        let len = self.len_of(piece);
+        if let Some(fault) = self.restore_fault(worker, piece, len) {
+            return fault;
+        }
+        self.restore_whole(worker, piece, bytes, passed)
+    }
+
+    /// How many bytes the piece has; 0 for one beyond the last.
+    fn len_of(&self, piece: u32) -> usize
+        ensures { piece < piece_count self.now.setting.torrent → result ≡ piece_len self.now.setting.torrent piece }
+    {
+        let torrent = self.torrent();
+        if piece < torrent.piece_count() {
+            torrent.piece_len(piece) as usize
+        } else {
+            0
+        }
     }
 
     /// Why nothing is done, if it isn't.
@@ -62,52 +87,49 @@ impl Picker {
         }
     }
 
+    /// Brings the piece, and settles it by what the caller found.
+    fn restore_whole(&mut self, worker: u32, piece: u32, bytes: &Unseen, passed: bool) -> Restored
+        requires told { IsToldOf self.old.setting.torrent piece bytes.now.bytes passed }
+        requires free { restore_fault self.old worker piece (length bytes.now.bytes) ≡ None }
+        ensures { Restores self.old self.new worker piece bytes.now.bytes result }
+    {
+        self.bring_whole(worker, piece, bytes);
+        restored_by(self.settle_waiting(worker, piece, passed))
+    }
+
     /// The worker's peer brings each block of the piece.
-    fn bring_whole(&mut self, worker: u32, piece: u32, bytes: &[u8])
+    fn bring_whole(&mut self, worker: u32, piece: u32, bytes: &Unseen)
         requires worker { worker < self.old.setting.workers }
         requires joined { joined self.old.history worker ≡ true }
         requires piece { piece < piece_count self.old.setting.torrent }
-        requires len { length bytes.now ≡ piece_len self.old.setting.torrent piece }
+        requires len { length bytes.now.bytes ≡ piece_len self.old.setting.torrent piece }
         requires unbegun { unbegun self.old.setting self.old.history piece ≡ true }
-        ensures brings { Brings self.old self.new worker piece bytes.now (block_count self.old.setting.torrent piece) }
+        ensures brings { Brings self.old self.new worker piece bytes.now.bytes (block_count self.old.setting.torrent piece) }
         ensures setting { self.new.setting ≡ self.old.setting }
         ensures waits { waits self.new.setting self.new.history piece ≡ true }
-        ensures content { content self.new.setting self.new.history piece ≡ bytes.now }
+        ensures content { content self.new.setting self.new.history piece ≡ bytes.now.bytes }
     {
         self.attest();
         let count = self.torrent().block_count(piece);
         for index in 0..count {
-            self.bring(worker, piece, index, bytes);
+            self.bring_block(worker, piece, index, bytes);
         }
     }
 
     /// The worker's peer brings a block of the piece.
-    fn bring(&mut self, worker: u32, piece: u32, index: u32, bytes: &[u8])
+    fn bring_block(&mut self, worker: u32, piece: u32, index: u32, bytes: &Unseen)
         requires worker { worker < self.old.setting.workers }
-        requires within { block_size * index ≤ length bytes.now }
-        requires begin { block_size * index < 4294967296 }
+        requires piece { piece < piece_count self.old.setting.torrent }
+        requires index { index < block_count self.old.setting.torrent piece }
+        requires len { length bytes.now.bytes ≡ piece_len self.old.setting.torrent piece }
         ensures { (reply : Reply) × Gains self.old self.new
-            (arriving worker piece (block_size * index) (part bytes.now (block_size * index)) reply) }
+            (arriving worker piece (block_size * index) (part bytes.now.bytes (block_size * index)) reply) }
     {
-        let begin = BLOCK_SIZE * index;
-        let _reply = self.hear(
-            worker,
-            &Told::Arrived {
-                piece,
-                begin,
-                bytes: block_from(bytes, begin as usize),
-            },
-        );
+        let block = self.torrent().block(piece, index);
+        let _whole = bytes;
+        let unseen = Unseen::these();
+        let _reply = self.bring(worker, piece, block.begin, &unseen, block.len as usize);
     }
-}
-
-/// The bytes of the block that begins there.
-fn block_from(bytes: &[u8], begin: usize) -> &[u8]
-    requires { begin ≤ length bytes.now }
-    ensures { result.now ≡ part bytes.now begin }
-{
-    let rest = &bytes[begin..];
-    &rest[..rest.len().min(BLOCK_SIZE as usize)]
 }
 
 /// What is told of a check.

@@ -5,4 +5,4 @@ use Rattle.bt_picker.proofs.picker.Picker.bring_whole.Given as goal
 
 abbrev pub invariant-loop-index : goal.invariant-loop-index
 invariant-loop-index l =
-    (l.count ≡ block_count l.initial.self.setting.torrent l.piece) × Bringing l.initial.self l.self l.worker l.piece l.bytes l.index
+    (l.count ≡ block_count l.initial.self.setting.torrent l.piece) × Bringing l.initial.self l.self l.worker l.piece l.bytes.bytes l.index
