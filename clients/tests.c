@@ -2955,7 +2955,7 @@ static void try_restores(void)
 
 static void try_without_bytes(void)
 {
-    const uint32_t disk = 1, last = pieces - 1, tail = length_of(last) - 1 & ~(BLOCK - 1u);
+    const uint32_t disk = 1, last = pieces - 1, tail = (length_of(last) - 1) / BLOCK * BLOCK;
     piecepick_picker *picker = open_for(PIECEPICK_KEEPS_NOTHING, 2), *twin = open_for(PIECEPICK_KEEPS_NOTHING, 2);
     piecepick_answer answer;
     uint32_t number;

@@ -73,7 +73,7 @@ CHANGED = "            priority_changed_.emit(this, files, n_files, TR_PRI_NORMA
 
 EDITS = (
     behind("CMakeLists.txt", r"option\(ENABLE_UTP ", 'option(ENABLE_PIECEPICK "Choose what to request by the piecepick library" OFF)\n'),
-    before("CMakeLists.txt", r"find_package\(Threads\)", "if(ENABLE_PIECEPICK)\n    find_package(piecepick 3 REQUIRED CONFIG)\nendif()\n"),
+    before("CMakeLists.txt", r"find_package\(Threads\)", "if(ENABLE_PIECEPICK)\n    find_package(piecepick 1.1 REQUIRED CONFIG)\nendif()\n"),
     before(BUILD, r" peer-mgr-wishlist\.cc", "".join(f"        {name}\n" for name in FILES)),
     before(BUILD, r"\[=\[\[WITH_INOTIFY\]\]=\]", "    [=[[ENABLE_PIECEPICK]]=]\n        peer-mgr-piecepick.cc\n"),
     before(BUILD, r"<STREQUAL:\$\{CRYPTO_PKG\},ccrypto>", "        $<$<BOOL:${ENABLE_PIECEPICK}>:WITH_PIECEPICK>\n"),

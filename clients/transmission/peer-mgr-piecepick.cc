@@ -61,13 +61,19 @@ void PiecePick::restore()
 {
     uint32_t const disk = std::size(workers_);
     call(piecepick_join, disk);
-    for (tr_block_index_t block = 0U; block < tor_->block_count(); ++block)
+    for (tr_piece_index_t piece = 0U; piece < tor_->piece_count(); ++piece)
     {
-        auto const loc = tor_->block_loc(block);
-        auto const kind = tor_->has_block(block) ? came(disk, loc.piece, loc.piece_offset, tor_->block_size(block)).kind : 0;
-        if (kind == PIECEPICK_K_FULL)
+        if (tor_->has_piece(piece))
         {
-            verdict(loc.piece, true);
+            call(piecepick_resume, disk, piece, 1U);
+            continue;
+        }
+        for (auto [block, end] = tor_->block_span_for_piece(piece); block < end; ++block)
+        {
+            if (tor_->has_block(block))
+            {
+                call(piecepick_received, disk, piece, tor_->block_loc(block).piece_offset, tor_->block_size(block));
+            }
         }
     }
     call(piecepick_leave, disk);
@@ -145,18 +151,11 @@ void PiecePick::told(tr_peer& peer, tr_peer_event const& event)
     case Type::ClientGotBlock:
         workers_[worker].heard_at = tr_time_msec();
         piecepick_depth_by_rate_came(&workers_[worker].rate, event.length, workers_[worker].heard_at);
-        came(worker, event.pieceIndex, event.offset, event.length);
+        call(piecepick_received, worker, event.pieceIndex, event.offset, event.length);
         break;
     default:
         break;
     }
-}
-
-// This stands in for a call without bytes. The library reads no byte of a block.
-piecepick_answer PiecePick::came(uint32_t worker, uint32_t piece, uint32_t begin, uint32_t length)
-{
-    static auto constexpr Unread = std::array<uint8_t, BlockSize>{};
-    return call(piecepick_arrived, worker, piece, begin, std::data(Unread), length);
 }
 
 void PiecePick::verdict(tr_piece_index_t piece, bool passed)

@@ -53,7 +53,6 @@ private:
     void set_levels();
     void join(tr_peer& peer);
     void show(uint32_t worker);
-    piecepick_answer came(uint32_t worker, uint32_t piece, uint32_t begin, uint32_t length);
     void verdict(tr_piece_index_t piece, bool passed);
     void look_over(uint64_t now, bool shares);
     void share_out(uint64_t now);

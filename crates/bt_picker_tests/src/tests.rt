@@ -23,4 +23,5 @@ mod shown;
 mod steps;
 mod threads;
 mod tickets;
+mod unseen;
 mod verdicts;

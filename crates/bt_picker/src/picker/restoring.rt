@@ -40,8 +40,7 @@ impl Picker {
             return fault;
         }
         let passed = self.has_hash(piece, digest);
-        let unseen = Unseen::these();
-        self.restore_whole(worker, piece, &unseen, passed)
+        self.restore_whole(worker, piece, &Unseen::of(bytes), passed)
     }
 
     /// A whole piece is there already, as with `restore`, and the caller has compared its hash: the picker is told whether it is the
@@ -126,9 +125,8 @@ impl Picker {
             (arriving worker piece (block_size * index) (part bytes.now.bytes (block_size * index)) reply) }
     {
         let block = self.torrent().block(piece, index);
-        let _whole = bytes;
-        let unseen = Unseen::these();
-        let _reply = self.bring(worker, piece, block.begin, &unseen, block.len as usize);
+        let part = bytes.part(block.begin);
+        let _reply = self.bring(worker, piece, block.begin, &part, block.len as usize);
     }
 }
 

@@ -33,5 +33,6 @@ returns-then-is_stored c =
 pub returns-else-is_stored : goal.returns-else-is_stored
 returns-else-is_stored c =
     let d = c.args.self.now in
-    (λ i. (sym c.if-is_stored.false ∙ c.is_stored.ensures) i && not (asked_alone d.setting d.history c.args.worker c.args.piece c.args.begin))
+    c.if-is_stored.false
+    ∙ (λ i. (sym c.if-is_stored.false ∙ c.is_stored.ensures) i && not (asked_alone d.setting d.history c.args.worker c.args.piece c.args.begin))
     ∙ block_stirs d.setting d.history c.args.worker c.args.piece c.args.begin c.args.bytes.now.bytes c.args.reply c.requires.allowed
