@@ -2974,8 +2974,8 @@ static void try_without_bytes(void)
     EQUAL(receive(picker, 0, 1, 0), PIECEPICK_K_STORED);
     EQUAL(bring(twin, 0, 1, 0, 0), PIECEPICK_K_STORED);
     EQUAL(receive(picker, 0, 1, 0), PIECEPICK_K_DROPPED);
-    EQUAL(receive(picker, 0, last, tail), PIECEPICK_K_STORED);
-    EQUAL(bring(twin, 0, last, tail, 0), PIECEPICK_K_STORED);
+    EQUAL(receive(picker, 0, last, tail), PIECEPICK_K_FULL);
+    EQUAL(bring(twin, 0, last, tail, 0), PIECEPICK_K_FULL);
     EQUAL(receive(picker, 0, 1, BLOCK), PIECEPICK_K_FULL);
     EQUAL(bring(twin, 0, 1, BLOCK, 0), PIECEPICK_K_FULL);
     EQUAL(picture(picker), picture(twin));

@@ -85,8 +85,22 @@ c() {
         checked "$language" -c "$here/quick.c" -o quick.o
         g++ -fsanitize=address,undefined quick.o "$here/out/libpiecepick.a" -o quick
         ./quick
+        checked "$language" -pthread -c "$here/threads.c" -o threads.o
+        g++ -fsanitize=address,undefined threads.o "$here/out/libpiecepick.a" -lpthread -o threads
+        ./threads
         echo "$language: well"
     done
+
+    # Eight threads under one lock, by what looks for races: of the C side by the compiler's check, and of the library too by helgrind.
+    echo 'int main(void) { return 0; }' > probe.c
+    if gcc -fsanitize=thread probe.c -o probe 2> probe.log && setarch -R ./probe 2>> probe.log; then
+        warned "gcc -std=c11" -O1 -g -pthread -fsanitize=thread "$here/threads.c" "$here/out/libpiecepick.a" -o threads
+        setarch -R ./threads || fail "a race in the client with threads"
+    fi
+    if command -v valgrind > /dev/null; then
+        warned "gcc -std=c11" -O1 -g -pthread "$here/threads.c" "$here/out/libpiecepick.a" -o threads
+        valgrind --quiet --tool=helgrind --error-exitcode=1 ./threads 32 || fail "helgrind finds a race"
+    fi
 
     # Depth by rate is of the headers alone, so the library isn't linked. The other languages read the same table in their own tests.
     for language in "gcc -std=c99 -pedantic" "gcc -std=c11 -pedantic" "g++ -std=c++17 -x c++"; do
@@ -252,6 +266,7 @@ rust() {
         export CARGO_TARGET_DIR="$work/target" PIECEPICK_LIB_DIR="$here/out"
         cargo test --offline --quiet --manifest-path "$here/rust/Cargo.toml" || fail "the Rust crate"
         cargo run --offline --quiet --manifest-path "$here/rust/Cargo.toml" --example loop || fail "the Rust example"
+        cargo run --offline --quiet --manifest-path "$here/rust/Cargo.toml" --example threads || fail "the Rust example with threads"
     else
         echo "cargo isn't here: the Rust crate was passed over"
     fi
