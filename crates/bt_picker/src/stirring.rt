@@ -69,7 +69,14 @@ impl<'a> Position<'a> {
 
     /// Whether a block that came, with this reply, may change what is answered to a peer that had nothing to be asked for.
     #[inline(always)]
-    pub fn stirs_with(&self, worker: u32, piece: u32, begin: u32, bytes: &Unseen, reply: Reply) -> bool
+    pub fn stirs_with(
+        &self,
+        worker: u32,
+        piece: u32,
+        begin: u32,
+        bytes: &Unseen,
+        reply: Reply,
+    ) -> bool
         requires worker { worker < self.now.setting.workers }
         requires allowed { IsAllowed self.now.setting self.now.history (arriving worker piece begin bytes.now.bytes reply) }
         ensures { result ≡ stirs self.now.setting self.now.history (arriving worker piece begin bytes.now.bytes reply) }

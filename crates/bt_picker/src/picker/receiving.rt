@@ -52,7 +52,15 @@ impl Picker {
         let before = self.position();
         let reply = before.received(worker, piece, begin, bytes, len);
         let stirs = before.stirs_with(worker, piece, begin, bytes, reply);
-        enter_block(&mut self.tables, &self.past, worker, piece, begin, bytes, reply);
+        enter_block(
+            &mut self.tables,
+            &self.past,
+            worker,
+            piece,
+            begin,
+            bytes,
+            reply,
+        );
         self.past = self.past.then(&Note::Received {
             worker,
             piece,

@@ -1,6 +1,5 @@
-use Rattle.std.proofs.Common.{◌≡◌, ◌-◌, ◌∙◌, ℕ, ap, arith, subst}
-use Rattle.std.proofs.Math.Nat.{min-le_left}
-use Rattle.bt_meta.specs.Layout.{Layout, block_count, piece_start}
+use Rattle.std.proofs.Common.{◌≡◌, ◌∙◌, ℕ, ap, arith, subst}
+use Rattle.bt_meta.specs.Layout.{Layout, block_count}
 use Rattle.bt_picker.proofs.Restoring.{Bringing, brought_content, brought_more, brought_none, brought_waits}
 use Rattle.bt_picker.proofs.picker.Picker.bring_whole.Goals as goal
 
