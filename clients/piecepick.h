@@ -25,9 +25,9 @@
    - A pointer to a picker or a job starts as NULL. It is filled and freed by its own two calls alone, and isn't NULL at any other.
    - Each other pointer is valid for its call: an answer and a number may be written, a buffer has the length that is given with it, isn't NULL
      (also at length 0: pass any valid pointer) and isn't freed meanwhile. What is written lies in nothing else that is passed.
-   - One call at a time at each picker, and at each job. Where nothing is kept, the caller's lock is held over an arrival and the write of its bytes:
-     else another thread may hash the piece before they are written. The library takes no lock and keeps no state of its own. So other pickers
-     may be used meanwhile, and a picker may go to another thread under the caller's lock.
+   - One call at a time at each picker, and at each job: threads hold a mutex of the caller's over each call. Where nothing is kept, they hold it
+     over an arrival and the write of its bytes: else another thread may hash the piece before they are written. The library takes no lock and
+     keeps no state of its own. So other pickers may be used meanwhile, and a picker may go to another thread under the caller's lock.
    - malloc, realloc and free come from one allocator. No call is made in a signal handler, or in the forked child of a process with threads.
    - The processor has the level x86-64-v2 (SSSE3, SSE4.1), where the library wasn't built for another. */
 #ifndef PIECEPICK_H
