@@ -2,12 +2,14 @@
 //! history it has seen and logs its calls, and when all are done the logs are compared with the journal.
 #![tactic(auto)]
 
+mod closing;
 mod compare;
 mod entering;
 mod gather;
 mod job;
 mod lock;
 mod pass;
+mod shareable;
 mod shared;
 mod view;
 
