@@ -1,5 +1,6 @@
 -- A worker's turn at what is shared, from the lock to its release.
 use Rattle.std.proofs.Common.{◌≡◌, ℕ, ◌<◌, Bool, true, false, None, List, [], ◌∷◌, refl, sym, ap, ◌∙◌, subst, inl, inr, lt-ltb, nat_lt}
+use Rattle.atomic_table.specs.Seated.{TableId}
 use Rattle.bt_history.specs.declared.call.Reply.{Reply}
 use Rattle.bt_history.specs.declared.event.Event.{Event}
 use Rattle.bt_history.specs.History.{History}
@@ -7,9 +8,10 @@ use Rattle.bt_history.specs.Setting.{Setting}
 use Rattle.bt_picker.specs.Checks.{SettlesIf, SettlesNow, is_right, waits}
 use Rattle.bt_picker.specs.Positions.{DeskState, Gains}
 use Rattle.bt_picker.specs.Told.{Settles, SettlesAs, Tells, TellsIf}
-use Rattle.bt_shared.specs.Guard.{MayGive, Sat, desk, part, seeing}
-use Rattle.bt_shared.specs.Passes.{Adds, IsRightWhenDue, IsSame, IsSeatOf, IsTurnOf, Judges, PassState, picker_of}
+use Rattle.bt_shared.specs.Guard.{Fits, MayGive, Sat, desk, part, seeing}
+use Rattle.bt_shared.specs.Passes.{Adds, FreesAfter, FreesJudged, IsFreed, IsRightWhenDue, IsSame, IsSeatOf, IsTurnOf, Judges, PassState, picker_of}
 use Rattle.bt_shared.specs.Seen.{Continues, GoesOn, Grows}
+use Rattle.bt_shared.proofs.Marked.{knows_continue}
 
 -- a pass's seat that takes the word
 pub turn_begins : (w : ℕ) (m m' : Sat) (d : DeskState) → IsSeatOf w m → m.0.setting ≡ d.setting → m' ≡ (seeing true m.0 d.history, (0, None) ∷ [])
@@ -120,3 +122,42 @@ pub judged_settles : (d d' : DeskState) (w p : ℕ) (reply : Reply) → w < d.se
 judged_settles d d' w p reply below settles =
     let is : nat_lt w d.setting.workers ≡ true = lt-ltb w d.setting.workers below in
     subst (λ (b : Bool). SettlesAs b d d' w p reply) is settles
+
+-- a pass of a picker, by its seat
+abbrev pub pass_of : TableId → ℕ → Sat → PassState
+pass_of table w m = record { table = table; setting = m.0.setting; worker = w; seen = m.0.part.seen; log = [] }
+
+-- a call by a pass, whose seat had the lock and found d
+module _ (w : ℕ) (table table' : TableId) (m taken m' : Sat) (d : DeskState) (seat : IsSeatOf w m)
+    (found : Fits d.setting d.history m.0 × (m.0.setting ≡ d.setting)) (is : taken ≡ (seeing true m.0 d.history, (0, None) ∷ [])) (old : PassState)
+    (view : pass_of table w m ≡ old) (same : table' ≡ table) where
+  stays : (d' : DeskState) → IsFreed d' taken m' → IsSame (pass_of table w m) (pass_of table' w m')
+  stays d' freed = record {
+    table = same;
+    setting = ap (λ (x : Sat). x.0.setting) freed ∙ ap (λ (x : Sat). x.0.setting) is;
+    worker = refl;
+  }
+
+  went : Continues w m.0.part.seen d.history
+  went = knows_continue d.history m.0.part w seat.alone found.0.part
+
+  pub pass_adds : (e : ℕ → Event) → FreesAfter (e w) d taken m' → Adds (e old.worker) old (pass_of table' w m')
+  pass_adds e frees =
+      let P : PassState → Type 0 = λ p. Adds (e p.worker) p (pass_of table' w m') in
+      subst P view
+      (adds (pass_of table w m) (pass_of table' w m') d frees.0 went (stays frees.0 frees.2) found.1 frees.1.setting
+      (ap (λ (x : Sat). x.0.part.seen) frees.2) (e w) frees.1)
+
+  pub pass_judges : (p : ℕ) (reply : Reply) → FreesJudged w p reply d taken m' → Judges p reply old (pass_of table' w m')
+  pass_judges p reply frees =
+      let P : PassState → Type 0 = λ b. Judges p reply b (pass_of table' w m') in
+      subst P view
+      (judges (pass_of table w m) (pass_of table' w m') d frees.0 went (stays frees.0 frees.2) found.1 (kept_settles d frees.0 w p reply frees.1)
+      (ap (λ (x : Sat). x.0.part.seen) frees.2) p reply frees.1)
+
+  -- a verdict that is right whatever is found is so here
+  pub pass_right : (p : ℕ) (passed : Bool) → IsRightWhenDue old p passed → waits d.setting d.history p ≡ true →
+      passed ≡ is_right d.setting d.history p
+  pass_right p passed right =
+      let P : PassState → Type 0 = λ b. IsRightWhenDue b p passed in
+      right_here (pass_of table w m) p passed d (subst P (sym view) right) went found.1
