@@ -1,12 +1,13 @@
-//! Threads that share a desk: each asks for a block and brings it, again and again.
+//! Threads that share a desk, and then a picker: each asks for a block and brings it, again and again.
 
 ghost use Rattle.std.specs.Prelude.{◌≡◌, All};
 
 mod hammer;
+mod picking;
 
 use crate::figures::nanos;
 use anyhow::{Context, Result};
-use bt_shared::{Pass, SharedDesk};
+use bt_shared::{Pass, PickerPass, SharedDesk, SharedPicker};
 use hammer::{Tally, hammer, open, pieces_for};
 use std::rt::Runtime;
 use std::sync::Wait;
@@ -24,14 +25,27 @@ pub struct Crowd {
     pub times: bool,
 }
 
-/// Lets the threads call, and prints what is wanted of it.
+/// Lets the threads call a desk and then a picker, and prints what is wanted of it.
 pub fn time_threads<R: Runtime + AllocGlobal + Clock + Threads + Wait + Sync>(
     rt: &R,
     crowd: Crowd,
 ) -> Result<()> {
     let (tally, took) = call_together(rt, crowd)?;
+    print_row(rt, "", crowd, tally, took)?;
+    let (tally, took) = call_picker_together(rt, crowd)?;
+    print_row(rt, "picker ", crowd, tally, took)
+}
+
+/// Prints the counts, and the times where they are wanted.
+fn print_row<R: Runtime>(
+    rt: &R,
+    of: &str,
+    crowd: Crowd,
+    tally: Tally,
+    took: Duration,
+) -> Result<()> {
     let Crowd { threads, pairs, .. } = crowd;
-    rt.println(format_args!("threads {threads} pairs {pairs} calls {}", tally.calls))?;
+    rt.println(format_args!("{of}threads {threads} pairs {pairs} calls {}", tally.calls))?;
     if crowd.times {
         print_times(rt, tally, took)?;
     }
@@ -67,6 +81,40 @@ fn time_passes<R: Runtime + AllocGlobal + Clock + Threads + Wait + Sync>(
         &|pass: Pass| -> Option<Tally>
             requires { pass.table ≡ desk.now.table }
         { hammer(rt, alloc, desk, pass, pieces, pairs) },
+    )?;
+    let took = rt.monotonic()?.saturating_sub(start);
+    Ok((sum(&tallies)?, took))
+}
+
+/// Lets the threads call one picker, and tells their calls and how long all took together.
+fn call_picker_together<R: Runtime + AllocGlobal + Clock + Threads + Wait + Sync>(
+    rt: &R,
+    crowd: Crowd,
+) -> Result<(Tally, Duration)> {
+    let Crowd { threads, pairs, .. } = crowd;
+    let pieces = pieces_for(threads, pairs)?;
+    let (picker, passes) = picking::open(rt.alloc(), threads, pieces)?;
+    time_picker_passes(rt, &picker, passes, pieces, pairs)
+}
+
+/// The same by these passes, a thread each.
+fn time_picker_passes<R: Runtime + AllocGlobal + Clock + Threads + Wait + Sync>(
+    rt: &R,
+    picker: &SharedPicker,
+    passes: Vec<PickerPass>,
+    pieces: u32,
+    pairs: u32,
+) -> Result<(Tally, Duration)>
+    requires { All (λ pass. pass.table ≡ picker.now.table) passes.items }
+{
+    let alloc = rt.alloc();
+    let start = rt.monotonic()?;
+    let tallies = thread::map_vec(
+        rt,
+        passes,
+        &|pass: PickerPass| -> Option<Tally>
+            requires { pass.table ≡ picker.now.table }
+        { picking::hammer(rt, alloc, picker, pass, pieces, pairs) },
     )?;
     let took = rt.monotonic()?.saturating_sub(start);
     Ok((sum(&tallies)?, took))

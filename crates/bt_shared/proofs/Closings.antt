@@ -126,15 +126,23 @@ module _ (s : Setting) (passes : List PassState) (m : Sat) (joined : IsJoined pa
   joined_knows None saw = tt
   joined_knows (Some d) saw = known d.history m.0.part.workers passes (subst (Each (Saw d.history m.0.part.workers)) joined.parts saw)
 
-  -- with a pass of each worker the desk is there, and no entry is missing
+  -- with a pass of each worker all speak for themselves
+  joined_everyone : AreCounted s m.0.part.workers → length passes ≡ s.workers → IsEveryone s m.0.part.workers
+  joined_everyone counted all =
+      everyone s m.0.part.workers counted (ap length joined.workers ∙ (length-map passes (λ (p : PassState). p.worker) ∙ all))
+
+  -- and what is shared is there
+  pub joined_some : (result : Slot) → AreCounted s m.0.part.workers → (IsEveryone s m.0.part.workers → IsSome result) → length passes ≡ s.workers
+      → IsSome result
+  joined_some result counted free all = free (joined_everyone counted all)
+
+  -- and no entry is missing
   pub joined_all : (result : Slot) → IfSome result (λ (d : DeskState). d.setting ≡ s) → IfSome result (λ (d : DeskState). IsLegal d.setting d.history)
       → IfSome result (λ (d : DeskState). EachKnows d.history passes) → AreCounted s m.0.part.workers →
       (IsEveryone s m.0.part.workers → IsSome result)
       → EachOwn passes → length passes ≡ s.workers → IsSomeAnd result (λ (d : DeskState). IsEntered d passes)
   joined_all result setting legal knows counted free own all =
-      let workers = m.0.part.workers in
-      let count : length workers ≡ s.workers = ap length joined.workers ∙ (length-map passes (λ (p : PassState). p.worker) ∙ all) in
-      let each = everyone s workers counted count in
+      let each = joined_everyone counted all in
       go result setting legal knows (free each) each
     where
       go : (result : Slot) → IfSome result (λ (d : DeskState). d.setting ≡ s) → IfSome result (λ (d : DeskState). IsLegal d.setting d.history)
@@ -169,3 +177,10 @@ module _ (s : Setting) (passes : List PassState) (T : TableId) (result : Slot) w
       absurd (omega (arith, none, full, one))
   closed_all (Some seat) one empty joined setting legal knows counted free own full =
       joined_all s passes seat.me joined.1 result setting legal knows counted free own full
+
+  pub closed_some : (all : Option (Seat Slot DeskView)) → 1 ≤ s.workers → IfNone all (passes ≡ []) →
+      IfSome all (λ (seat : Seat Slot DeskView). (seat.table_id ≡ T) × IsJoined passes seat.me)
+      → IfSome all (λ (seat : Seat Slot DeskView). AreCounted s seat.me.0.part.workers)
+      → IfSome all (λ (seat : Seat Slot DeskView). IsEveryone s seat.me.0.part.workers → IsSome result) → length passes ≡ s.workers → IsSome result
+  closed_some None one empty joined counted free full = let none : length passes ≡ 0 = ap length empty in absurd (omega (arith, none, full, one))
+  closed_some (Some seat) one empty joined counted free full = joined_some s passes seat.me joined.1 result counted free full

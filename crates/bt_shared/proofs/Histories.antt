@@ -4,7 +4,7 @@ use Rattle.std.proofs.Common.{append-nil, ne_eqb, length, length-append, ◌+◌
 use Rattle.std.proofs.lemmas.List.{nil_from_length}
 use Rattle.bt_history.specs.declared.event.Event.{Event}
 use Rattle.bt_history.specs.History.{History}
-use Rattle.bt_shared.specs.Seen.{AreApart, Each, own, StartsWith, IsAmong, Knows, Grows}
+use Rattle.bt_shared.specs.Seen.{AreApart, Each, own, StartsWith, IsAmong, Knows, Grows, GoesOn}
 
 if_append : (b : Bool) (x : Event) (xs ys zs : History) → xs ≡ ys ++ zs → cond b (x ∷ xs) xs ≡ cond b (x ∷ ys) ys ++ zs
 if_append true x xs ys zs e = ap (λ l. x ∷ l) e
@@ -33,17 +33,28 @@ knows_all h workers = record { begins = starts_self h; complete = λ w _. refl }
 pub knows_nothing : (h : History) → Knows h [] []
 knows_nothing h = record { begins = starts_empty h; complete = λ w none. absurd none }
 
+-- one entry at most was added
+pub goes_one : (makers : List ℕ) (h h' : History) → Grows makers h h' → GoesOn makers h h'
+goes_one makers h h' (inl same) = record { newer = []; theirs = tt; is = same }
+goes_one makers h h' (inr more) = record { newer = more.0 ∷ []; theirs = (more.1, tt); is = more.2 }
+
+module _ (makers workers : List ℕ) (apart : (w : ℕ) → IsAmong w workers → IsAmong w makers → ⊥) (h seen : History) (k : Knows h workers seen) where
+  knows_newer : (newer : History) → Each (λ (e : Event). IsAmong e.worker makers) newer → Knows (newer ++ h) workers seen
+  knows_newer [] theirs = k
+  knows_newer (e ∷ newer) theirs =
+      let rest = knows_newer newer theirs.1 in
+      record {
+        begins = starts_more (newer ++ h) seen e rest.begins;
+        complete = λ w among. own_other w (newer ++ h) e (λ is. apart w among (subst (λ (x : ℕ). IsAmong x makers) is theirs.0))
+            ∙ rest.complete w among;
+      }
+
 -- what is known stays so when workers that are not among these make calls
-pub knows_more : (h h' : History) (makers workers : List ℕ) (seen : History) → Grows makers h h' →
+pub knows_more : (h h' : History) (makers workers : List ℕ) (seen : History) → GoesOn makers h h' →
     ((w : ℕ) → IsAmong w workers → IsAmong w makers → ⊥) → Knows h workers seen → Knows h' workers seen
-knows_more h h' makers workers seen (inl same) apart k = let P : History → Type 0 = λ l. Knows l workers seen in subst P (sym same) k
-knows_more h h' makers workers seen (inr more) apart k =
-    let e = more.0 in
+knows_more h h' makers workers seen goes apart k =
     let P : History → Type 0 = λ l. Knows l workers seen in
-    subst P (sym more.2) record {
-      begins = starts_more h seen e k.begins;
-      complete = λ w among. own_other w h e (λ is. apart w among (subst (λ (x : ℕ). IsAmong x makers) is more.1)) ∙ k.complete w among;
-    }
+    subst P (sym goes.is) (knows_newer makers workers apart h seen k goes.newer goes.theirs)
 
 pub among_append : (w : ℕ) (xs ys : List ℕ) → IsAmong w (xs ++ ys) → IsAmong w xs ⊎ IsAmong w ys
 among_append w [] ys h = inr h

@@ -1,18 +1,19 @@
 -- Each step of the word lock keeps its rule.
-use Rattle.std.proofs.Common.{◌≡◌, ◌≢◌, ℕ, ◌≤◌, ◌==◌, Bool, true, false, Some, None, zero, suc, List, [], ◌∷◌, get_or, set, refl, sym, ap, ◌∙◌}
-use Rattle.std.proofs.Common.{subst, inl, inr, ⊎_elim, arith, length-set, get_or-set_same, le_refl}
+use Rattle.std.proofs.Common.{◌≡◌, ◌≢◌, ℕ, ◌≤◌, ◌==◌, Bool, true, false, Some, None, zero, suc, List, [], ◌∷◌, ◌++◌, get_or, set, refl, sym, ap, ◌∙◌}
+use Rattle.std.proofs.Common.{subst, ⊎_elim, arith, length-set, get_or-set_same, le_refl}
+use mathlib.Core.Logic.{dite}
 use mathlib.Core.Option.{none, some, some-injective, some-ne-none}
+use native.Mathlib.Decide.{ℕ_discrete}
 use lib.ListN.{get_elem?}
-use Rattle.std.proofs.lemmas.List.{set-get_or}
 use prog.Atomic.{either}
-use Rattle.atomic_table.specs.Table.{step, Act, keeps, takes, gives, carried_after, Valid, rest, stepped, Allows}
+use Rattle.atomic_table.specs.Table.{Step, step, keeps, takes, gives, rest, stepped, Allows}
 use Rattle.atomic_table.proofs.Lists.{at_set, set_here, set_again, exchanged}
 use Rattle.bt_history.specs.Setting.{Setting}
 use Rattle.bt_history.specs.declared.event.Event.{Event}
 use Rattle.bt_picker.specs.Positions.{DeskState}
 use Rattle.bt_shared.specs.declared.view.DeskView.{DeskView}
-use Rattle.bt_shared.specs.Seen.{IsAmong, Grows, own}
-use Rattle.bt_shared.specs.Guard.{Slot, Table, Sat, desk, Fits, Apart, Guards, Saw, seeing, Takes, Frees, MayFree, MayTake}
+use Rattle.bt_shared.specs.Seen.{Each, GoesOn, IsAmong, own}
+use Rattle.bt_shared.specs.Guard.{Slot, Table, Sat, desk, Fits, Apart, Guards, Saw, seeing, Takes, Frees, MayGive, MayTake}
 use Rattle.bt_shared.proofs.Histories.{each_map, own_other, knows_all, knows_more}
 
 -- a fact of each seat, where one has a new view
@@ -82,26 +83,34 @@ not_true true h = absurd (h refl)
 not_true false h = refl
 
 -- workers that have no seat yet have made no call
-fresh_more : (h h' : List Event) (makers : List ℕ) (w : ℕ) → Grows makers h h' → (IsAmong w makers → ⊥) → own w h ≡ [] → own w h' ≡ []
-fresh_more h h' makers w (inl same) away zero-own = ap (own w) same ∙ zero-own
-fresh_more h h' makers w (inr more) away zero-own = let e = more.0 in
-    ap (own w) more.2 ∙ (own_other w h e (λ is. away (subst (λ (x : ℕ). IsAmong x makers) is more.1)) ∙ zero-own)
+module _ (h : List Event) (makers : List ℕ) (w : ℕ) (away : IsAmong w makers → ⊥) (clean : own w h ≡ []) where
+  fresh_newer : (newer : List Event) → Each (λ (e : Event). IsAmong e.worker makers) newer → own w (newer ++ h) ≡ []
+  fresh_newer [] theirs = clean
+  fresh_newer (e ∷ newer) theirs =
+      own_other w (newer ++ h) e (λ is. away (subst (λ (x : ℕ). IsAmong x makers) is theirs.0)) ∙ fresh_newer newer theirs.1
+
+fresh_more : (h h' : List Event) (makers : List ℕ) (w : ℕ) → GoesOn makers h h' → (IsAmong w makers → ⊥) → own w h ≡ [] → own w h' ≡ []
+fresh_more h h' makers w goes away clean = ap (own w) goes.is ∙ fresh_newer h makers w away clean goes.newer goes.theirs
+
+-- a step that takes the word leaves no 0
+pub exchange_marks : (x : ℕ) → either (x == 0) 1 x ≢ 0
+exchange_marks x = exchanged x 0 1 (λ y. y ≢ 0) (λ _ e. absurd (omega (arith, e))) (λ taken. taken)
 
 module _ (setting : Setting) (n me worker : ℕ) (v : DeskView) (live : v.spent ≡ false) (speaks : IsAmong worker v.part.workers) where
   -- the word was free: the seat takes it, with the desk
-  take_free : (s : Table) (r : Guards setting s) → get_elem? s.views me ≡ some v → get_or s.words 0 0 ≡ 0
-      → Guards setting (stepped s 0 1 me [] (seeing true v r.journal) (takes 0 (Some (desk setting r.journal))))
-  take_free s r at is-free =
+  take_free : (mark : ℕ) → mark ≢ 0 → (s : Table) (r : Guards setting s) → get_elem? s.views me ≡ some v → get_or s.words 0 0 ≡ 0
+      → Guards setting (stepped s 0 mark me [] (seeing true v r.journal) (takes 0 (Some (desk setting r.journal))))
+  take_free mark marks s r at is-free =
       let h = r.journal in
       let w : DeskView = seeing true v h in
       let free = r.free is-free in
       let wide = r.words in
-      let word : get_or (set s.words 0 1) 0 0 ≡ 1 = get_or-set_same s.words 0 1 0 (omega arith) in
+      let word : get_or (set s.words 0 mark) 0 0 ≡ mark = get_or-set_same s.words 0 mark 0 (omega arith) in
       record {
         journal = h;
-        words = length-set s.words 0 1 ∙ r.words;
+        words = length-set s.words 0 mark ∙ r.words;
         slots = length-set s.homes 0 none ∙ r.slots;
-        free = λ e. absurd (omega (arith, word, e));
+        free = λ e. absurd (marks (sym word ∙ e));
         taken = λ _. record {
           away = set_here s.homes 0 none (omega (arith, r.slots));
           seat = me;
@@ -120,31 +129,54 @@ module _ (setting : Setting) (n me worker : ℕ) (v : DeskView) (live : v.spent 
         apart = apart_set s.views me v w at refl refl (le_refl v.next) r.apart;
       }
 
-  -- a failed try
-  take_failed : (s : Table) → Guards setting s → get_elem? s.views me ≡ some v → Guards setting (stepped s 0 (get_or s.words 0 0) me [] v keeps)
-  take_failed s r at =
-      let P : List ℕ → List DeskView → Type 0 = λ ws vs. Guards setting record { words = ws; homes = s.homes; views = vs } in
-      subst (λ ws. P ws (set s.views me v)) (sym (set-get_or s.words 0 0)) (subst (P s.words) (sym (set_again s.views me v at)) r)
+  -- a failed try, which may leave another mark
+  take_failed : (mark : ℕ) → mark ≢ 0 → (s : Table) → Guards setting s → get_elem? s.views me ≡ some v → get_or s.words 0 0 ≢ 0
+      → Guards setting (stepped s 0 mark me [] v keeps)
+  take_failed mark marks s r at is-taken =
+      let wide = r.words in
+      let word : get_or (set s.words 0 mark) 0 0 ≡ mark = get_or-set_same s.words 0 mark 0 (omega arith) in
+      let t = r.taken is-taken in
+      let P : List DeskView → Type 0 = λ vs. Guards setting record { words = set s.words 0 mark; homes = s.homes; views = vs } in
+      subst P (sym (set_again s.views me v at)) record {
+        journal = r.journal;
+        words = length-set s.words 0 mark ∙ r.words;
+        slots = r.slots;
+        free = λ e. absurd (marks (sym word ∙ e));
+        taken = λ _. record {
+          away = t.away;
+          seat = t.seat;
+          view = t.view;
+          at = t.at;
+          says = t.says;
+          found = t.found;
+          worker = t.worker;
+          speaks = t.speaks;
+          only = t.only;
+        };
+        fresh = r.fresh;
+        each = r.each;
+        apart = r.apart;
+      }
 
-  pub may_take : v.taken ≡ false → Allows (Guards setting) n me (v, []) 0 (λ n. either (n == 0) 1 n) (Takes (step n 0 0 1 none) (v, []))
-  may_take idle s r slots at fits =
-      let n : ℕ = get_or s.words 0 0 in
-      let Goes : ℕ → Type 0 = λ x. (w : DeskView) × (a : Act Slot) × Valid s.homes [] a × Guards setting (stepped s 0 x me [] w a) ×
-      Takes (step n 0 0 1 none) (v, []) n (w, carried_after [] a) in
-      exchanged n 0 1 Goes
+  -- a step that puts a number into the word which isn't 0
+  pub may_take : v.taken ≡ false → (f : ℕ → ℕ) → ((x : ℕ) → f x ≢ 0) → (st : Step Slot) →
+      Allows (Guards setting) n me (v, []) 0 f (Takes st (v, []))
+  may_take idle f marks st s r slots at fits =
+      let x : ℕ = get_or s.words 0 0 in
+      dite (ℕ_discrete x 0)
       (λ is-free.
       let h = r.journal in (
         seeing true v h,
         takes 0 (Some (desk setting h)),
         (r.free is-free).home,
-        take_free s r at is-free,
+        take_free (f x) (marks x) s r at is-free,
         ((λ _. (desk setting h, (r.each me v at).same live, r.each me v at, refl)), λ taken. absurd (taken is-free)),
       ))
-      (λ is-taken. (v, keeps, tt, take_failed s r at, ((λ e. absurd (is-taken e)), λ _. refl)))
+      (λ is-taken. (v, keeps, tt, take_failed (f x) (marks x) s r at is-taken, ((λ e. absurd (is-taken e)), λ _. refl)))
 
 module _ (setting : Setting) (n me : ℕ) (v : DeskView) (live : v.spent ≡ false) where
   -- the word is taken, by this seat, which gives the desk back
-  free_taken : (d : DeskState) → MayFree v d → (s : Table) (r : Guards setting s) → get_elem? s.views me ≡ some v
+  free_taken : (d : DeskState) → MayGive v d → (s : Table) (r : Guards setting s) → get_elem? s.views me ≡ some v
       → Guards setting (stepped s 0 0 me ((0, Some d) ∷ []) (seeing false v d.history) gives)
   free_taken d m s r at =
       let w : DeskView = seeing false v d.history in
@@ -153,7 +185,7 @@ module _ (setting : Setting) (n me : ℕ) (v : DeskView) (live : v.spent ≡ fal
       let mine : me ≡ t.seat = t.only me v at m.taken in
       let view-is : t.view ≡ v = some-injective t.view v (sym t.at ∙ (ap (get_elem? s.views) (sym mine) ∙ at)) in
       let journal-is : v.part.seen ≡ r.journal = ap (λ (u : DeskView). u.part.seen) (sym view-is) ∙ t.found in
-      let grows : Grows v.part.workers r.journal d.history = subst (λ h. Grows v.part.workers h d.history) journal-is m.grows in
+      let goes : GoesOn v.part.workers r.journal d.history = subst (λ h. GoesOn v.part.workers h d.history) journal-is m.goes in
       let same : d.setting ≡ setting = m.same ∙ (r.each me v at).same live in
       let word : get_or (set s.words 0 0) 0 0 ≡ 0 = get_or-set_same s.words 0 0 0 (omega (arith, r.words)) in
       record {
@@ -167,9 +199,9 @@ module _ (setting : Setting) (n me : ℕ) (v : DeskView) (live : v.spent ≡ fal
         };
         taken = λ no. absurd (no word);
         fresh = each_set (λ i u. (x : ℕ) → u.maker ≡ true → u.next ≤ x → own x d.history ≡ []) s.views me w
-            (λ x makes le. fresh_more r.journal d.history v.part.workers x grows
+            (λ x makes le. fresh_more r.journal d.history v.part.workers x goes
             (λ among. let below = r.apart.made me me v v x at at makes among in absurd (omega arith)) (r.fresh me v at x makes le))
-            (λ i u _ there x makes le. fresh_more r.journal d.history v.part.workers x grows
+            (λ i u _ there x makes le. fresh_more r.journal d.history v.part.workers x goes
             (λ among. let below = r.apart.made i me u v x there at makes among in absurd (omega arith)) (r.fresh i u there x makes le));
         each = each_set (λ _ u. Fits setting d.history u) s.views me w (fits_all setting r.journal d.history false v live (r.each me v at))
             (λ i u other there.
@@ -177,10 +209,10 @@ module _ (setting : Setting) (n me : ℕ) (v : DeskView) (live : v.spent ≡ fal
             let away : (x : ℕ) → IsAmong x u.part.workers → IsAmong x v.part.workers → ⊥ = λ x a b. other (r.apart.workers i me u v x there at a b) in
             record {
               same = f.same;
-              part = knows_more r.journal d.history v.part.workers u.part.workers u.part.seen grows away f.part;
+              part = knows_more r.journal d.history v.part.workers u.part.workers u.part.seen goes away f.part;
               parts = each_map (Saw r.journal u.part.workers) (Saw d.history u.part.workers) u.parts
                   (λ p saw. record {
-                    knows = knows_more r.journal d.history v.part.workers p.workers p.seen grows (λ x a. away x (saw.among x a))
+                    knows = knows_more r.journal d.history v.part.workers p.workers p.seen goes (λ x a. away x (saw.among x a))
                         saw.knows;
                     among = saw.among;
                   })
@@ -191,7 +223,7 @@ module _ (setting : Setting) (n me : ℕ) (v : DeskView) (live : v.spent ≡ fal
         apart = apart_set s.views me v w at refl refl (le_refl v.next) r.apart;
       }
 
-  pub may_free : (d : DeskState) → MayFree v d → Allows (Guards setting) n me (v, (0, Some d) ∷ []) 0 (λ _. 0)
+  pub may_free : (d : DeskState) → MayGive v d → Allows (Guards setting) n me (v, (0, Some d) ∷ []) 0 (λ _. 0)
       (λ _. Frees (step n 0 0 0 none) (v, (0, Some d) ∷ []) 0)
   may_free d m s r slots at fits = (
     seeing false v d.history,
@@ -202,14 +234,13 @@ module _ (setting : Setting) (n me : ℕ) (v : DeskView) (live : v.spent ≡ fal
   )
 
 -- The same for a seat with its slots.
-pub seat_may_take : (setting : Setting) (n id : ℕ) (m : Sat) → MayTake m →
-    Allows (Guards setting) n id m 0 (λ x. either (x == 0) 1 x) (Takes (step n 0 0 1 none) m)
-seat_may_take setting n id m may =
-    let P : List (ℕ × Slot) → Type 0 = λ cs. Allows (Guards setting) n id (m.0, cs) 0 (λ x. either (x == 0) 1 x) (Takes (step n 0 0 1 none) (m.0, cs))
-    in
-    subst P (sym may.idle.empty) (may_take setting n id may.worker m.0 may.idle.live may.speaks may.idle.idle)
+pub seat_may_take : (setting : Setting) (n id : ℕ) (m : Sat) → MayTake m → (f : ℕ → ℕ) → ((x : ℕ) → f x ≢ 0) → (st : Step Slot) →
+    Allows (Guards setting) n id m 0 f (Takes st m)
+seat_may_take setting n id m may f marks st =
+    let P : List (ℕ × Slot) → Type 0 = λ cs. Allows (Guards setting) n id (m.0, cs) 0 f (Takes st (m.0, cs)) in
+    subst P (sym may.idle.empty) (may_take setting n id may.worker m.0 may.idle.live may.speaks may.idle.idle f marks st)
 
-pub seat_may_free : (setting : Setting) (n id : ℕ) (m : Sat) (d : DeskState) → m.1 ≡ (0, Some d) ∷ [] → m.0.spent ≡ false → MayFree m.0 d →
+pub seat_may_free : (setting : Setting) (n id : ℕ) (m : Sat) (d : DeskState) → m.1 ≡ (0, Some d) ∷ [] → m.0.spent ≡ false → MayGive m.0 d →
     Allows (Guards setting) n id m 0 (λ _. 0) (λ _. Frees (step n 0 0 0 none) m 0)
 seat_may_free setting n id m d carries live free =
     let P : List (ℕ × Slot) → Type 0 = λ cs. Allows (Guards setting) n id (m.0, cs) 0 (λ _. 0) (λ _. Frees (step n 0 0 0 none) (m.0, cs) 0) in
@@ -218,3 +249,7 @@ seat_may_free setting n id m d carries live free =
 -- a seat that has taken a slot may exchange its value
 pub has_slot : (m : Sat) (x : Slot) (cs : List (ℕ × Slot)) → m.1 ≡ (0, x) ∷ cs → (old : Slot) × (m.1 ≡ (0, old) ∷ rest m.1)
 has_slot m x cs e = (x, e ∙ ap (λ (l : List (ℕ × Slot)). (0, x) ∷ l) (sym (ap rest e)))
+
+-- the slot that it holds once it put a value there
+pub put_there : (m m' : Sat) (x : Slot) → m.1 ≡ (0, None) ∷ [] → m' ≡ (m.0, (0, x) ∷ rest m.1) → m' ≡ (m.0, (0, x) ∷ [])
+put_there m m' x away is = let P : List (ℕ × Slot) → Type 0 = λ cs. m' ≡ (m.0, (0, x) ∷ cs) in subst P (ap rest away) is

@@ -11,3 +11,4 @@ pub mod Spreading
 pub mod Counting
 pub mod Closings
 pub mod Refusing
+pub mod Turns

@@ -1,4 +1,4 @@
--- The rule of the word lock. Word 0 is 0 while it is free and 1 while it is taken, and slot 0 is the desk's.
+-- The rule of the word lock. Word 0 is 0 while it is free and another number while it is taken, and slot 0 is the desk's.
 use Rattle.std.specs.Prelude.{◌≡◌, ◌≢◌, ℕ, ◌+◌, ◌<◌, ◌≤◌, Bool, true, false, Option as StdOption, Some, List, [], ◌∷◌, ◌++◌, length, slice_index}
 use Rattle.std.specs.Prelude.{nat_lt, if◌then◌else◌}
 use mathlib.Core.Option.{none, some}
@@ -9,7 +9,7 @@ use Rattle.bt_history.specs.declared.event.Event.{Event}
 use Rattle.bt_picker.specs.Positions.{DeskState}
 use Rattle.bt_shared.specs.declared.view.Part.{Part}
 use Rattle.bt_shared.specs.declared.view.DeskView.{DeskView}
-use Rattle.bt_shared.specs.Seen.{AreApart, Each, Grows, IsAmong, Knows, own}
+use Rattle.bt_shared.specs.Seen.{AreApart, Each, GoesOn, Grows, IsAmong, Knows, own}
 
 -- what the slot has: the desk, while nobody has the word
 abbrev pub Slot : Type 0
@@ -153,6 +153,12 @@ Takes st m found m' =
 abbrev pub Frees : Step Slot → Sat → ℕ → Sat → Type 0
 Frees st m n m' = (d : DeskState) → m.1 ≡ (0, Some d) ∷ [] → m' ≡ (seeing false m.0 d.history, [])
 
+-- a seat that may make that of the next worker
+pub record MayMake (v : DeskView) : Type 0 where
+  pub live : v.spent ≡ false
+  pub makes : v.maker ≡ true
+  pub below : v.next < v.setting.workers
+
 -- a seat that hasn't taken the word
 pub record IsIdle (m : Sat) : Type 0 where
   pub live : m.0.spent ≡ false
@@ -165,7 +171,13 @@ pub record MayTake (m : Sat) : Type 0 where
   pub worker : ℕ
   pub speaks : IsAmong worker m.0.part.workers
 
--- a seat that may free the word with this desk
+-- a seat that may free the word with this desk, to which its workers' entries were added
+pub record MayGive (v : DeskView) (d : DeskState) : Type 0 where
+  pub taken : v.taken ≡ true
+  pub same : d.setting ≡ v.setting
+  pub goes : GoesOn v.part.workers v.part.seen d.history
+
+-- the same, where one entry was added at most
 pub record MayFree (v : DeskView) (d : DeskState) : Type 0 where
   pub taken : v.taken ≡ true
   pub same : d.setting ≡ v.setting

@@ -36,6 +36,12 @@ pub record Knows (h : History) (workers : List ℕ) (seen : History) : Type 0 wh
 abbrev pub Grows : List ℕ → History → History → Type 0
 Grows workers old new = (new ≡ old) ⊎ ((e : Event) × IsAmong e.worker workers × (new ≡ e ∷ old))
 
+-- the history is the old one with newer entries, all of these workers
+pub record GoesOn (workers : List ℕ) (old new : History) : Type 0 where
+  pub newer : History
+  pub theirs : Each (λ (e : Event). IsAmong e.worker workers) newer
+  pub is : new ≡ newer ++ old
+
 -- what is seen goes on from what was seen, with no entry of the worker between
 pub record Continues (worker : ℕ) (old new : History) : Type 0 where
   pub begins : StartsWith new old

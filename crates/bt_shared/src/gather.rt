@@ -1,9 +1,6 @@
 //! Gathering: the seats are joined, the table is closed, and each log is compared with the journal.
 
 ghost use Rattle.std.specs.Prelude.{◌≡◌, ◌++◌, ◌<◌, ◌≤◌, ◌^◌, ℕ, [], length, option_copied, vec_len, IfErr, IfNone, IfOk, IfSome, IsSome, IsSomeAnd};
-ghost use Rattle.std.specs.Slots.{IsFull, slots_items, slots_len};
-ghost use mathlib.Core.Option.{some};
-ghost use lib.ListN.{get_elem?};
 ghost use Rattle.bt_meta.specs.Layout.{piece_count};
 ghost use Rattle.bt_history.specs.Legal.{IsLegal};
 ghost use Rattle.bt_shared.specs.Closing.{AreCounted, EachKnows, EachOwn, IsEntered, IsEveryone, IsJoined, slot_if_free};
@@ -13,12 +10,11 @@ ghost use Rattle.bt_shared.specs.Passes.{AreOf};
 ghost use Rattle.bt_shared.specs.Seen.{Each};
 ghost use Rattle.bt_shared.specs.declared.gather.GatherFault.TheVariants.{NoMemory};
 
+use crate::closing::{close, joined};
 use crate::compare::{first_differing, first_other};
-use crate::entering::{attest, entries_of};
-use crate::lock::{DeskSeat, FREE, Guard, Held, Meet, Words};
+use crate::entering::entries_of;
+use crate::lock::{DeskSeat, Desks, Held, Words};
 use crate::pass::Pass;
-use crate::view::{DeskTerms, DeskView};
-use atomic_table::{Closed, Table};
 use bt_meta::Bitfield;
 use bt_picker::{Desk, Mark};
 use std::alloc::{AllocError, AllocFailed, Global};
@@ -69,28 +65,12 @@ fn empty_logs(alloc: Global, count: u32) -> Result<Vec<Vec<Mark>>, AllocError>
     Ok(logs)
 }
 
-/// The seat, into which the others were joined.
-fn joined(words: &Words, mut seat: DeskSeat, others: Option<DeskSeat>) -> DeskSeat
-    requires desk { IsDesk words.now.table_id.words words.now.table_id.slots }
-    requires seat { (seat.table_id ≡ words.now.table_id) × IsIdle seat.me }
-    requires others { IfSome others (λ others. (others.table_id ≡ words.now.table_id) × IsIdle others.me) }
-    ensures same { (result.table_id ≡ words.now.table_id) × IsIdle result.me }
-    ensures none { IfNone others (result ≡ seat) }
-    ensures workers { IfSome others (λ others. result.me.0.part.workers ≡ seat.me.0.part.workers ++ others.me.0.part.workers) }
-    ensures parts { IfSome others (λ others. result.me.0.parts ≡ seat.me.0.parts ++ others.me.0.parts) }
-{
-    if let Some(others) = others {
-        words.join_seat::<Meet>(&mut seat, others);
-    }
-    seat
-}
-
 /// Joins the passes' seats into one, puts each log at its worker's place, and counts the marks.
 fn spread(
-    words: &Words,
+    words: &Words<Desk>,
     mut passes: Vec<Pass>,
     logs: &mut Vec<Vec<Mark>>,
-) -> (usize, Option<DeskSeat>)
+) -> (usize, Option<DeskSeat<Desk>>)
     requires desk { IsDesk words.now.table_id.words words.now.table_id.slots }
     requires passes { AreOf (record { table = words.now.table_id; setting = words.now.key }) passes.items }
     requires room { vec_len logs.old ≡ words.now.key.workers }
@@ -113,64 +93,17 @@ fn spread(
     (held, all)
 }
 
-/// The desk out of its slot, if the word is free.
-fn desk_in(mut closed: Closed<Option<Held>, Global>) -> Option<Desk>
-    requires counts { (slots_len closed.words ≡ 1) × (slots_len closed.slots ≡ 1) }
-    requires full { IsFull closed.words × IsFull closed.slots }
-    ensures slot { (word : ℕ) (slot : Slot) → get_elem? (slots_items closed.words) 0 ≡ some word
-        → get_elem? (slots_items closed.slots) 0 ≡ some slot → result ≡ slot_if_free word slot }
-    ensures legal { IfSome result (λ desk. IsLegal desk.setting desk.history) }
+/// The desk that was held.
+fn desk_of(held: Option<Held<Desk>>) -> Option<Desk>
+    ensures { result ≡ held }
 {
-    let word = closed.word(0);
-    let slot = closed.take(0);
-    closed.free();
-    if word != FREE {
-        return None;
-    }
-    let Held { desk } = slot?;
-    attest(&desk);
+    let Held { desk } = held?;
     Some(Box::into_inner(desk))
-}
-
-/// The desk, if the word is free, out of a table that this seat closes. It is free where the seat speaks for all workers.
-fn close_with(
-    table: Table<Option<Held>, DeskView, DeskTerms, Guard, Global>,
-    seat: DeskSeat,
-) -> Option<Desk>
-    requires desk { IsDesk table.shared.table_id.words table.shared.table_id.slots }
-    requires seat { (seat.table_id ≡ table.shared.table_id) × IsIdle seat.me }
-    ensures setting { IfSome result (λ desk. desk.setting ≡ table.shared.key) }
-    ensures legal { IfSome result (λ desk. IsLegal desk.setting desk.history) }
-    ensures saw { IfSome result (λ desk. Each (Saw desk.history seat.me.0.part.workers) seat.me.0.parts) }
-    ensures counted { AreCounted table.shared.key seat.me.0.part.workers }
-    ensures free { IsEveryone table.shared.key seat.me.0.part.workers → IsSome result }
-{
-    desk_in(table.close_with(seat))
-}
-
-/// The desk, if the word is free. It is free where the seat speaks for all workers.
-fn close(
-    table: Table<Option<Held>, DeskView, DeskTerms, Guard, Global>,
-    all: Option<DeskSeat>,
-) -> Option<Desk>
-    requires desk { IsDesk table.shared.table_id.words table.shared.table_id.slots }
-    requires all { IfSome all (λ seat. (seat.table_id ≡ table.shared.table_id) × IsIdle seat.me) }
-    ensures setting { IfSome result (λ desk. desk.setting ≡ table.shared.key) }
-    ensures legal { IfSome result (λ desk. IsLegal desk.setting desk.history) }
-    ensures saw { IfSome all (λ seat. IfSome result (λ desk.
-        Each (Saw desk.history seat.me.0.part.workers) seat.me.0.parts)) }
-    ensures counted { IfSome all (λ seat. AreCounted table.shared.key seat.me.0.part.workers) }
-    ensures free { IfSome all (λ seat. IsEveryone table.shared.key seat.me.0.part.workers → IsSome result) }
-{
-    match all {
-        Some(seat) => close_with(table, seat),
-        None => desk_in(table.close()),
-    }
 }
 
 /// Puts each log at its worker's place, counts the marks, and takes the desk out of its slot, if the word is free.
 fn take_apart(
-    table: Table<Option<Held>, DeskView, DeskTerms, Guard, Global>,
+    table: Desks<Desk>,
     passes: Vec<Pass>,
     logs: &mut Vec<Vec<Mark>>,
 ) -> (usize, Option<Desk>)
@@ -187,7 +120,7 @@ fn take_apart(
     ensures logs { EachFrom passes.items logs.new.items }
 {
     let (held, all) = spread(&table.shared, passes, logs);
-    (held, close(table, all))
+    (held, desk_of(close(table, all)))
 }
 
 /// Why the desk's journal isn't what the logs, with so many marks, and the bitfield tell: the first cause that holds.
@@ -219,7 +152,7 @@ fn difference(
 /// The desk of all calls, with a log for each worker, if the passes have all calls of the journal, each at its place, and the bitfield, if
 /// there is one, has exactly the pieces that are had.
 pub(crate) fn gather(
-    table: Table<Option<Held>, DeskView, DeskTerms, Guard, Global>,
+    table: Desks<Desk>,
     workers: u32,
     alloc: Global,
     passes: Vec<Pass>,

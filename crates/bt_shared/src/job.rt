@@ -5,6 +5,7 @@ ghost use Rattle.bt_shared.specs.SharedJobs.{Witnesses, checked_of, shared_of};
 
 use crate::lock::DeskSeat;
 use bt_check::{Job, Verdict};
+use bt_picker::Desk;
 use std::alloc::{AllocError, Global};
 use std::marker::Model;
 use std::sync::Arc;
@@ -15,7 +16,7 @@ use std::sync::Arc;
 pub struct SharedJob {
     pub(crate) job: Job,
     pub(crate) failures: u64,
-    pub(crate) seen: DeskSeat,
+    pub(crate) seen: DeskSeat<Desk>,
 }
 
 impl Model for SharedJob {
@@ -37,7 +38,7 @@ impl Model for SharedJob {
 pub struct SharedVerdict {
     pub(crate) verdict: Arc<Verdict>,
     pub(crate) failures: u64,
-    pub(crate) seen: DeskSeat,
+    pub(crate) seen: DeskSeat<Desk>,
 }
 
 impl Model for SharedVerdict {
@@ -112,7 +113,7 @@ fn share(
     alloc: Global,
     verdict: Verdict,
     failures: u64,
-    seen: DeskSeat,
+    seen: DeskSeat<Desk>,
 ) -> Result<SharedVerdict, AllocError>
     requires { Witnesses seen.me failures verdict }
     ensures { IfOk result (λ shared. shared ≡ record { table = seen.table_id; setting = seen.me.0.setting; checked = verdict }) }
@@ -125,7 +126,7 @@ fn share(
 }
 
 /// The job beside what was seen when it was made, if one was made.
-pub(crate) fn with_seen(job: Option<Job>, failures: u64, seen: DeskSeat) -> Option<SharedJob>
+pub(crate) fn with_seen(job: Option<Job>, failures: u64, seen: DeskSeat<Desk>) -> Option<SharedJob>
     requires { IfSome job (λ job. Witnesses seen.me failures (checked_of job)) }
     ensures { result ≡ shared_of seen.table_id seen.me.0.setting job }
 {

@@ -5,7 +5,7 @@ ghost use Rattle.bt_history.specs.Legal.{IsLegal};
 ghost use Rattle.bt_history.specs.Logs.{Agrees};
 
 use crate::lock::DeskSeat;
-use bt_picker::Mark;
+use bt_picker::{Desk, Mark};
 use std::alloc::AllocError;
 use std::marker::Model;
 
@@ -15,7 +15,7 @@ use std::marker::Model;
 #[derive(Drop)]
 pub struct Pass {
     pub(crate) worker: u32,
-    pub(crate) seat: DeskSeat,
+    pub(crate) seat: DeskSeat<Desk>,
     pub(crate) log: Vec<Mark>,
 }
 

@@ -11,7 +11,6 @@ ghost use Rattle.bt_history.specs.declared.mark.CallMark.TheVariants.{Settle};
 ghost use Rattle.bt_picker.specs.Checks.{IsJobOf, waits};
 ghost use Rattle.bt_shared.specs.Closing.{EachKnows};
 ghost use Rattle.bt_shared.specs.Gathering.{AreHad, EachAgrees, EachFrom, IsCause, IsNotMissing};
-ghost use Rattle.bt_shared.specs.Guard.{IsDesk, maker};
 ghost use Rattle.bt_shared.specs.Passes.{AreOf, Enters, HasLengths, IsSame, Rests, Settles, newcomer};
 ghost use Rattle.bt_shared.specs.Seen.{Continues, StartsWith};
 ghost use Rattle.bt_shared.specs.SharedJobs.{IsFor, IsSharedJobOf, checking};
@@ -19,10 +18,9 @@ ghost use Rattle.bt_shared.specs.SharedJobs.{IsFor, IsSharedJobOf, checking};
 use crate::entering::{enter, enter_check, enter_verdict, job_of};
 use crate::gather::{Book, GatherFault, gather};
 use crate::job::{SharedJob, SharedVerdict, with_seen};
-use crate::lock::{DeskSeat, FREE, Guard, Held, Make, Meet, Witness, lock, unlock};
+use crate::lock::{Desks, Meet, Witness, lay, lock, next_seat, unlock};
 use crate::pass::Pass;
-use crate::view::{DeskTerms, DeskView};
-use atomic_table::Table;
+use crate::view::DeskTerms;
 use bt_check::Job;
 use bt_history::MOST_WORKERS;
 use bt_meta::{Bitfield, Torrent};
@@ -35,7 +33,7 @@ use std::sync::{Arc, Wait};
 /// Contracts see which desk it is, and the setting that its history is judged by. A pass is handed to the desk with which it was opened,
 /// the caller's condition.
 pub struct SharedDesk {
-    table: Table<Option<Held>, DeskView, DeskTerms, Guard, Global>,
+    table: Desks<Desk>,
     workers: u32,
 }
 
@@ -62,47 +60,6 @@ impl Model for SharedDesk {
         × (1 ≤ s.workers) };
 }
 
-/// What the desk is made for.
-fn desk_terms(torrent: &Arc<Torrent>, workers: u32, rules: Rules) -> Result<DeskTerms, AllocError>
-    ensures { IfOk result (λ terms. terms ≡ setting_of torrent.now.value.layout workers rules) }
-{
-    Ok(DeskTerms {
-        torrent: torrent.clone()?,
-        workers,
-        rules,
-    })
-}
-
-/// The word, free, with a desk in the slot that has an empty journal, and the first seat.
-fn lay(
-    alloc: Global,
-    torrent: Arc<Torrent>,
-    workers: u32,
-    rules: Rules,
-) -> Result<
-    (
-        Table<Option<Held>, DeskView, DeskTerms, Guard, Global>,
-        DeskSeat,
-    ),
-    AllocError,
->
-    requires workers { (1 ≤ workers) × (workers ≤ MOST_WORKERS) }
-    requires rules { AreRules torrent.value.layout rules }
-    ensures key { IfOk result (λ laid. laid.0.shared.key ≡ setting_of torrent.value.layout workers rules) }
-    ensures desk { IfOk result (λ laid. IsDesk laid.0.shared.table_id.words laid.0.shared.table_id.slots) }
-    ensures seat { IfOk result (λ laid. (laid.1.table_id ≡ laid.0.shared.table_id)
-        × (laid.1.me ≡ (maker (setting_of torrent.value.layout workers rules), []))) }
-{
-    let terms = desk_terms(&torrent, workers, rules)?;
-    let desk = Box::new(alloc, Desk::new(alloc, torrent, workers, rules)?)?;
-    let mut slots = Vec::new(alloc);
-    slots.push(Some(Held { desk }))?;
-    match Table::new(alloc, &[FREE], slots, &terms) {
-        Ok(laid) => Ok(laid),
-        Err(_) => Err(AllocError),
-    }
-}
-
 impl SharedDesk {
     /// A desk with the empty journal, and a pass for each worker, in order, that has seen nothing. `Desk::new` says which workers and rules
     /// there may be.
@@ -119,15 +76,14 @@ impl SharedDesk {
         ensures passes { IfOk result (λ opened.
             (w : ℕ) → w < workers → slice_get opened.1.items w ≡ Some (newcomer opened.0 w)) }
     {
-        let (table, mut maker) = lay(alloc, torrent, workers, rules)?;
+        let terms = DeskTerms::of(&torrent, workers, rules)?;
+        let desk = Box::new(alloc, Desk::new(alloc, torrent, workers, rules)?)?;
+        let (table, mut maker) = lay(alloc, desk, &terms)?;
         let mut passes = Vec::new(alloc);
         for worker in 0..workers {
-            let seat = table.shared.split_seat::<Make>(&mut maker);
-            passes.push(Pass {
-                worker,
-                seat,
-                log: Vec::new(alloc),
-            })?;
+            let seat = next_seat(&table.shared, &mut maker);
+            let log = Vec::new(alloc);
+            passes.push(Pass { worker, seat, log })?;
         }
         Ok((SharedDesk { table, workers }, passes))
     }

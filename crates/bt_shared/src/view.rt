@@ -1,8 +1,12 @@
 //! What a desk is made for, and what a seat has seen of it, which is a value of the proof alone.
 
+ghost use Rattle.std.specs.Prelude.{◌≡◌, IfOk};
+ghost use Rattle.bt_history.specs.Setting.{setting_of};
+
 use bt_history::Event;
 use bt_meta::Torrent;
 use bt_picker::Rules;
+use std::alloc::AllocError;
 use std::collections::LinkedList;
 use std::marker::Model;
 use std::sync::Arc;
@@ -21,6 +25,23 @@ impl Model for DeskTerms {
     ghost Value = { Setting };
 
     ghost view = { λ t. setting_of t.torrent.value.layout t.workers t.rules };
+}
+
+impl DeskTerms {
+    /// The terms of a desk or a picker that is made for these.
+    pub(crate) fn of(
+        torrent: &Arc<Torrent>,
+        workers: u32,
+        rules: Rules,
+    ) -> Result<DeskTerms, AllocError>
+        ensures { IfOk result (λ terms. terms ≡ setting_of torrent.now.value.layout workers rules) }
+    {
+        Ok(DeskTerms {
+            torrent: torrent.clone()?,
+            workers,
+            rules,
+        })
+    }
 }
 
 /// A history that was seen, and the workers that have no entries but those in it. No value of it is made.

@@ -1,10 +1,12 @@
 //! A desk, and the calls of one thread.
 
 ghost use Rattle.std.specs.Prelude.{◌≡◌, ◌≤◌, All, IfOk};
+ghost use Rattle.bt_history.specs.Setting.{AreRules};
 ghost use Rattle.bt_shared.specs.Passes.{IsSame};
 
 use crate::swarm::{ZEROS, full, torrent};
 use anyhow::{Result, ensure};
+use bt_meta::Torrent;
 use bt_picker::{Call, MOST_DEPTH, MOST_TOLD_DEPTH, MOST_WORKERS, Reply, Rules};
 use bt_shared::{Pass, SharedDesk};
 use bytes::Bytes;
@@ -36,7 +38,15 @@ pub fn open(alloc: Global, threads: u32, pieces: u32) -> Result<(SharedDesk, Vec
 {
     ensure!(1 <= threads && threads <= 1024, "from 1 to 1,024 threads");
     let torrent = torrent(alloc, pieces)?;
-    let rules = Rules {
+    let rules = rules_for(&torrent);
+    Ok(SharedDesk::open(alloc, Arc::new(alloc, torrent)?, threads, rules)?)
+}
+
+/// The rules that threads are answered by.
+pub fn rules_for(torrent: &Torrent) -> Rules
+    ensures { AreRules torrent.now.layout result }
+{
+    Rules {
         depth: 5,
         random: torrent.piece_count().min(1),
         askers: MOST_WORKERS,
@@ -44,8 +54,7 @@ pub fn open(alloc: Global, threads: u32, pieces: u32) -> Result<(SharedDesk, Vec
         open: 0,
         rush: MOST_TOLD_DEPTH,
         shown: false,
-    };
-    Ok(SharedDesk::open(alloc, Arc::new(alloc, torrent)?, threads, rules)?)
+    }
 }
 
 /// Pieces of more blocks than so many threads ask for.

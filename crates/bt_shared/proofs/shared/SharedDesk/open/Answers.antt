@@ -1,25 +1,30 @@
-use Rattle.std.proofs.Common.{◌≡◌, length, arith, ap, ◌∙◌, rules}
+use Rattle.std.proofs.Common.{◌≡◌, [], length, arith, ap, sym, ◌∙◌, rules}
 use Rattle.std.proofs.lemmas.Grind.{common_steps}
-use Rattle.bt_history.specs.Setting.{Setting}
-use Rattle.bt_shared.specs.Guard.{Sat}
+use Rattle.bt_history.specs.Setting.{Setting, setting_of}
+use Rattle.bt_picker.specs.Positions.{DeskState}
+use Rattle.bt_shared.specs.Guard.{Sat, desk as desk_of}
 use Rattle.bt_shared.specs.Passes.{PassState, SharedState, newcomer}
 use Rattle.bt_shared.proofs.Places.{one_more}
-use Rattle.bt_shared.proofs.Seats.{makes_newcomer}
 use Rattle.bt_shared.proofs.shared.SharedDesk.open.Goals as goal
 
-pub split_seat-seat-requires : goal.split_seat-seat-requires
-split_seat-seat-requires c = (
-  c.loop-worker.invariant.table,
-  omega (arith, c.in_ok-table.ensures.desk.one_word),
-  makes_newcomer c.in_ok-table.table.shared.key c.loop-worker.maker.id c.loop-worker.maker.me.0 c.loop-worker.invariant.live
-      c.loop-worker.invariant.makes
-      (omega (
-        arith,
-        c.loop-worker.invariant.next,
-        ap (λ (t : Setting). t.workers) (c.loop-worker.invariant.setting ∙ c.in_ok-table.ensures.key),
-        c.loop-worker-test.true,
-      )),
-)
+pub lay-requires : goal.lay-requires
+lay-requires c =
+    let s : Setting = setting_of c.args.torrent.value.layout c.args.workers c.args.rules in
+    let d : DeskState = c.in_ok-new.field-0 in
+    let new : d ≡ desk_of s [] = λ k. record { setting = c.in_ok-new.ensures.setting k; history = c.in_ok-new.ensures.history k } in
+    c.in_ok-desk.ensures.ok ∙ new ∙ ap (λ (t : Setting). desk_of t []) (sym c.in_ok-terms.ensures)
+
+pub next_seat-seat-requires-clause-makes : goal.next_seat-seat-requires-clause-makes
+next_seat-seat-requires-clause-makes c = record {
+  live = c.loop-worker.invariant.live;
+  makes = c.loop-worker.invariant.makes;
+  below = omega (
+    arith,
+    c.loop-worker.invariant.next,
+    ap (λ (t : Setting). t.workers) (c.loop-worker.invariant.setting ∙ c.in_ok-table.ensures.key ∙ c.in_ok-terms.ensures),
+    c.loop-worker-test.true,
+  );
+}
 
 -- the desk, and the pass that was made last
 abbrev desk : goal.In_ok-push → SharedState
@@ -27,11 +32,11 @@ desk c = record { table = c.in_ok-table.table.shared.table_id; setting = c.in_ok
 
 abbrev pass : goal.In_ok-push → PassState
 pass c = record {
-  table = c.split_seat-seat.result.table_id;
-  setting = c.split_seat-seat.result.me.0.setting;
+  table = c.next_seat-seat.result.table_id;
+  setting = c.next_seat-seat.result.me.0.setting;
   worker = c.loop-worker.worker;
-  seen = c.split_seat-seat.result.me.0.part.seen;
-  log = c.new.result.items;
+  seen = c.next_seat-seat.result.me.0.part.seen;
+  log = c.new-log.result.items;
 }
 
 next_worker : (c : goal.In_ok-push) → c.loop-worker.worker ≡ length c.loop-worker.passes.items
@@ -40,13 +45,13 @@ next_worker c = omega (arith, c.loop-worker.invariant.count)
 -- it is the next worker's, who has seen and logged nothing
 is_next : (c : goal.In_ok-push) → pass c ≡ newcomer (desk c) (length c.loop-worker.passes.items)
 is_next c =
-    let seat = c.split_seat-seat.ensures in
+    let seat = c.next_seat-seat.ensures.seat in
     λ k. record {
-      table = (seat.3 ∙ c.loop-worker.invariant.table) k;
-      setting = (ap (λ (m : Sat). m.0.setting) seat.4 ∙ c.loop-worker.invariant.setting) k;
+      table = (seat.0 ∙ c.loop-worker.invariant.table) k;
+      setting = (ap (λ (m : Sat). m.0.setting) seat.1 ∙ c.loop-worker.invariant.setting) k;
       worker = next_worker c k;
-      seen = ap (λ (m : Sat). m.0.part.seen) seat.4 k;
-      log = c.new.ensures.items k;
+      seen = ap (λ (m : Sat). m.0.part.seen) seat.1 k;
+      log = c.new-log.ensures.items k;
     }
 
 pub loop-worker-preserved : goal.loop-worker-preserved

@@ -1,10 +1,10 @@
 use Rattle.std.proofs.Common.{◌≡◌, arith}
 use Rattle.bt_shared.specs.Guard.{IsIdle}
 use Rattle.bt_shared.proofs.Seats.{meets}
-use Rattle.bt_shared.proofs.gather.joined.Goals as goal
+use Rattle.bt_shared.proofs.closing.joined.Goals as goal
 
 pub join_seat-requires : goal.join_seat-requires
-join_seat-requires c =
+join_seat-requires g c =
     let words = c.args.words.now in
     let seat = c.args.seat in
     let others = c.in-Some.others in
