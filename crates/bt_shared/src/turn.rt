@@ -1,17 +1,17 @@
 //! A worker's turn: the picker is its own until it gives it back.
 
-ghost use Rattle.std.specs.Prelude.{◌≡◌, ℕ, List, true};
+ghost use Rattle.std.specs.Prelude.{◌≡◌, ℕ, List, length, true};
 ghost use Rattle.bt_history.specs.declared.call.Reply.{Reply};
 ghost use Rattle.bt_history.specs.declared.event.Action.TheVariants.{Arrived};
 ghost use Rattle.bt_history.specs.Legal.{IsLegal};
-ghost use Rattle.bt_picker.specs.Checks.{SettlesNow, is_right, waits};
+ghost use Rattle.bt_picker.specs.Checks.{SettlesNow, arriving, is_right, waits};
 ghost use Rattle.bt_picker.specs.Positions.{Gains};
 ghost use Rattle.bt_picker.specs.Told.{action_told, telling};
 ghost use Rattle.bt_shared.specs.Passes.{IsSame, picker_of};
 
 use crate::lock::DeskSeat;
 use crate::telling;
-use bt_picker::{Picker, Reply, Told};
+use bt_picker::{Picker, Reply, Told, Unseen};
 use std::marker::Model;
 
 /// A worker's pass with the picker, while all others wait: so it asks and calls as often as it likes, and gives the picker back. Contracts see
@@ -67,6 +67,19 @@ impl Turn {
     {
         let Turn { worker, picker, .. } = self;
         telling::tell(picker, *worker, told)
+    }
+
+    /// Answers a block that came from the worker's peer, as `Picker::received` does: the caller has its bytes, and tells how many they are.
+    pub fn received(&mut self, piece: u32, begin: u32, bytes: &Unseen, len: usize) -> Reply
+        requires { len ≡ length bytes.now.bytes }
+        ensures gains { Gains (picker_of self.old) (picker_of self.new)
+            (arriving self.old.worker piece begin bytes.now.bytes result) }
+        ensures same { IsSame self.old self.new }
+        ensures legal { IsLegal self.new.setting self.new.seen }
+        ensures completes { result ≡ Reply.Completed → waits self.new.setting self.new.seen piece ≡ true }
+    {
+        let Turn { worker, picker, .. } = self;
+        telling::receive(picker, *worker, piece, begin, bytes, len)
     }
 
     /// Answers the worker's verdict on what is stored of the piece, as `Picker::judge` does.
