@@ -1,8 +1,9 @@
-//! Threads that share a desk, and then a picker: each asks for a block and brings it, again and again.
+//! Threads that share a desk, then a picker, and then one under std's mutex: each asks for a block and brings it, again and again.
 
 ghost use Rattle.std.specs.Prelude.{◌≡◌, All};
 
 mod hammer;
+mod locked;
 mod picking;
 
 use crate::figures::nanos;
@@ -25,7 +26,7 @@ pub struct Crowd {
     pub times: bool,
 }
 
-/// Lets the threads call a desk and then a picker, and prints what is wanted of it.
+/// Lets the threads call a desk, then a picker, and then one under a mutex, and prints what is wanted of it.
 pub fn time_threads<R: Runtime + AllocGlobal + Clock + Threads + Wait + Sync>(
     rt: &R,
     crowd: Crowd,
@@ -33,7 +34,9 @@ pub fn time_threads<R: Runtime + AllocGlobal + Clock + Threads + Wait + Sync>(
     let (tally, took) = call_together(rt, crowd)?;
     print_row(rt, "", crowd, tally, took)?;
     let (tally, took) = call_picker_together(rt, crowd)?;
-    print_row(rt, "picker ", crowd, tally, took)
+    print_row(rt, "picker ", crowd, tally, took)?;
+    let (tally, took) = call_locked_together(rt, crowd)?;
+    print_row(rt, "mutex ", crowd, tally, took)
 }
 
 /// Prints the counts, and the times where they are wanted.
@@ -116,6 +119,24 @@ fn time_picker_passes<R: Runtime + AllocGlobal + Clock + Threads + Wait + Sync>(
             requires { pass.table ≡ picker.now.table }
         { picking::hammer(rt, alloc, picker, pass, pieces, pairs) },
     )?;
+    let took = rt.monotonic()?.saturating_sub(start);
+    Ok((sum(&tallies)?, took))
+}
+
+/// Lets the threads call one picker under a mutex, and tells their calls and how long all took together.
+fn call_locked_together<R: Runtime + AllocGlobal + Clock + Threads + Wait + Sync>(
+    rt: &R,
+    crowd: Crowd,
+) -> Result<(Tally, Duration)> {
+    let Crowd { threads, pairs, .. } = crowd;
+    let alloc = rt.alloc();
+    let pieces = pieces_for(threads, pairs)?;
+    let picker = locked::open(alloc, threads, pieces)?;
+    let shared = &picker;
+    let start = rt.monotonic()?;
+    let tallies = thread::map_indices(rt, alloc, threads as usize, &|index: usize| -> Option<Tally> {
+        locked::hammer(rt, alloc, shared, index as u32, pieces, pairs)
+    })?;
     let took = rt.monotonic()?.saturating_sub(start);
     Ok((sum(&tallies)?, took))
 }
