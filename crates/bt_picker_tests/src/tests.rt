@@ -1,9 +1,10 @@
-//! The desk, by worked examples, random calls and calls without memory; the desk that threads share; and the parts below the picker.
+//! The desk, by worked examples, random calls and calls without memory; the desk and the picker that threads share; and the parts below the picker.
 
 mod abc;
 mod audits;
 mod calls;
 mod content;
+mod crowd;
 mod examples;
 mod finished;
 mod gathering;
