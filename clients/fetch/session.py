@@ -385,7 +385,6 @@ class Session:
 
     def follow_rate(self, peer: Peer) -> None:
         """The peer's depth follows its rate: up at once, and down by steps. What is asked stays asked."""
-        peer.pace.follow(self.now)
         before = peer.depth
         if peer.by_rate.follow(milliseconds(self.now)) != before:
             self.picker.depth(peer.worker, peer.depth)

@@ -333,6 +333,8 @@ class Swarm:
         """What is due five times a second, once a second, and each round of choking."""
         now = self._ticked = self.session.now
         self.connect()
+        for peer in self.session.peers.values():
+            self.session.follow_rate(peer)  # so often, since a new peer may be far quicker than its first depth
         if now - self._slowly_ticked >= SLOW_TICK:
             self._slowly_ticked = now
             for peer in list(self.peers):
@@ -355,7 +357,7 @@ class Swarm:
             self.drop(peer, "has all, as we have")
             self.addresses.postpone(peer.address, now)
             return
-        self.session.follow_rate(peer)
+        peer.pace.follow(now)
         if now - peer.said > KEEPALIVE_SECONDS and not peer.unsent:
             peer.unsent += KEEPALIVE
 

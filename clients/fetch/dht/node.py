@@ -71,8 +71,12 @@ class Node:
     def _order(self, order: Callable[[], None]) -> None:
         if self._orders.qsize() < MOST_ORDERS:
             self._orders.put(order)
-            with contextlib.suppress(OSError):
-                self._waker.send(b"\0")
+            self._wake()
+
+    def _wake(self) -> None:
+        """Ends the wait of the node's thread."""
+        with contextlib.suppress(OSError):
+            self._waker.send(b"\0")
 
     def search(self, infohash: bytes, port: int, on_peers: Callable[[list[Address]], None]) -> Search:
         """Looks for peers from now on, and announces us where there is a port. The node's thread calls `on_peers`."""
@@ -128,6 +132,7 @@ class Node:
         """Ends."""
         self._is_closing = True
         if self._thread.is_alive():
+            self._wake()
             self._thread.join(LAST_SECONDS)
         else:
             self._close()
