@@ -10,14 +10,17 @@ import selectors
 import socket
 import time
 from dataclasses import dataclass
+from typing import TYPE_CHECKING
 
 from .addresses import Addresses, Origin, is_loopback
-from .announcing import Announcer
 from .asking import Asking
 from .blame import Address
 from .metadata import LARGEST, WrongInfo
 from .partings import Partings
 from .wire import WireFault
+
+if TYPE_CHECKING:
+    from .announcing import Announcer
 
 MOST_CONNECTIONS = 20
 MOST_BYTES = 2 * LARGEST  # of info dictionaries that come at a time

@@ -18,8 +18,11 @@ from fetch.asking import Asking
 from fetch.dht.node import Node
 from fetch.metadata import Assembly, Word, WrongInfo
 from fetch.metainfo import MetainfoFault, info_of, infohash_of, is_private, metainfo_of, trackers_of, web_seeds_of
+from fetch.options import Options
 from fetch.peer import Peer
+from fetch.reach import Reach
 from fetch.seeking import Link, Seeker
+from fetch.source import obtain
 from fetch.spans import end_of
 from fetch.wire import Inbound, WireFault
 
@@ -174,6 +177,24 @@ class Room(unittest.TestCase):
             seeker.links.add(Link(connection, ("10.0.0.1", 1 + number), asking, 0.0, 0.0))
         self.assertFalse(seeker._may_begin(1 << 23))
         self.assertTrue(seeker._may_begin(1 << 18))
+
+
+class Loaded(unittest.TestCase):
+    """What is imported while a link is followed."""
+
+    def test_meanwhile(self) -> None:
+        """A peer is connected before the imports are over. Where one of them can't be had, the link is followed no longer."""
+        listener = socket.create_server(("127.0.0.1", 0))
+        self.addCleanup(listener.close)
+        listener.settimeout(60.0)
+
+        def load() -> None:
+            listener.accept()[0].close()
+            raise ImportError("there is no library")
+
+        options = Options(f"magnet:?xt=urn:btih:{HEX}", peers=[listener.getsockname()], asks_trackers=False)
+        with self.assertRaisesRegex(ImportError, "there is no library"):
+            obtain(options, Reach(options), lambda loop: contextlib.nullcontext(), lambda text: None, load)
 
 
 class Given(Speaking):

@@ -6,6 +6,7 @@ import unittest
 
 from fetch.peer import FIRST_DEPTH, Peer, milliseconds
 from fetch.session import MOST_TIMEOUTS, REJECT_REST, REST, SILENCE
+from fetch.swarm import TICK
 from fetch.wire import WireFault
 
 from .spoken import Speaking, message
@@ -51,6 +52,14 @@ class Asked(Speaking):
         peer = self.joined()
         self.assertEqual(len(peer.asked), FIRST_DEPTH)
         self.assertEqual(self.download.parts.picker.outstanding(peer.worker), FIRST_DEPTH)
+
+    def test_quick(self) -> None:
+        """A new peer that is quicker than its first depth is asked for more at the next tick, and not a second later."""
+        peer = self.joined()
+        peer.by_rate.came(100 * BLOCK, milliseconds(self.session.now))
+        self.session.now += TICK
+        self.download.parts.swarm._tick()
+        self.assertEqual(len(peer.asked), 100 + LEAST_DEPTH)
 
     def test_time_out(self) -> None:
         """A silent peer's requests are taken back after they were late; then it rests, and others may be asked."""
