@@ -35,11 +35,12 @@ TICK = 0.2
 
 @dataclass(frozen=True)
 class Met:
-    """A connection for who goes on with it, and what its peer has said."""
+    """A connection for who goes on with it, what its peer has said, and whether we have said that we are interested."""
 
     connection: socket.socket
     address: Address
     heard: bytes
+    is_interested: bool
 
 
 @dataclass(eq=False)
@@ -196,7 +197,7 @@ class Seeker:
             if known and known.origin in origins and (heard := link.asking.heard) is not None:
                 self._selector.unregister(link.connection)
                 self.links.discard(link)
-                met.append(Met(link.connection, link.address, heard))
+                met.append(Met(link.connection, link.address, heard, link.asking.is_interested))
         return met
 
     def close(self) -> None:

@@ -149,6 +149,23 @@ class Asked(Speaking):
         self.bring(peer, block)
         self.assertIn(block[0], self.download.parts.content.held)
 
+    def test_choke_at_once(self) -> None:
+        """With the fast extension a choke with an unchoke right behind takes back nothing but what is rejected (BEP 6)."""
+        peer = self.joined()
+        block, other, *rest = peer.asked
+        said = self.hear(peer, message(CHOKE) + message(REJECT, *block, BLOCK) + message(UNCHOKE))
+        self.assertEqual((said, list(peer.asked)), (b"", [other, *rest]))
+        self.bring(peer, other)
+        self.assertIn(other[0], self.download.parts.content.held)
+        self.assertEqual(list(peer.late), [block])
+
+    def test_choke_at_once_plain(self) -> None:
+        """Without that extension all is asked for again (BEP 3)."""
+        peer = self.peer(False)
+        self.hear(peer, message(BITFIELD, data=flags_of(range(PIECES))) + message(UNCHOKE))
+        self.hear(peer, message(CHOKE) + message(UNCHOKE))
+        self.assertEqual((len(peer.asked), self.session.figures.requests), (FIRST_DEPTH, 2 * FIRST_DEPTH))
+
     def test_unasked(self) -> None:
         """A block that nobody asked for is no more than counted, so that nobody fills pieces with nonsense."""
         peer = self.peer(False)
