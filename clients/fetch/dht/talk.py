@@ -23,7 +23,7 @@ NEAREST = 16  # nodes with which a lookup begins
 FEW_NODES = 8
 SOON, LATER = 2.0, 300.0  # seconds until a torrent is looked up again: as long as few are found they double, up to the later ones
 FEW_PEERS = 30
-FIRST_RETRY, LONGEST_RETRY = 3.0, 300.0  # seconds until we look again for the nodes near to us; they double
+FIRST_RETRY, LONGEST_RETRY = 1.0, 300.0  # seconds until we look again for the nodes near to us; they double
 MOST_FAR = 20  # buckets that are looked up at a time
 UNKNOWN = b""  # the number of a node of which the address alone is known
 
@@ -201,8 +201,9 @@ class Talk:
             if now < search.next or not len(self.table):
                 return
             search.lookup = Lookup(search.infohash, self.own, wants_peers=True)
-            search.lookup.add(self.table.nearest(search.infohash, NEAREST))
             search.told = set()
+        if len(search.lookup.candidates) < NEAREST:  # it may have begun when one node was known, whose answer is late
+            search.lookup.add(self.table.nearest(search.infohash, NEAREST))
         self._pump(search.lookup, now)
         if search.lookup.is_done:
             self._announce(search, search.lookup, now)

@@ -214,6 +214,25 @@ class Nets(unittest.TestCase):
         net.run(0.1)
         self.assertEqual(len(new.table), 1)
 
+    def test_lost(self) -> None:
+        """A first node whose answer doesn't come is asked again after a second, and then less and less often."""
+        sent: list[float] = []
+        talk = Talk(lambda packet, address: sent.append(now), [("10.0.0.1", 1)], ONE)
+        for tenth in range(100):
+            now = tenth / 10
+            talk.tick(now)
+        self.assertEqual(sent, [0.0, 1.0, 3.0, 7.0])
+
+    def test_search_goes_on(self) -> None:
+        """A search that began at one node goes on at another one that becomes known, though the first one hasn't answered."""
+        sent: list[tuple[bytes, Address]] = []
+        talk = Talk(lambda packet, address: sent.append((packet, address)), [], ONE)
+        talk.searches.append(Search(INFOHASH, 0, lambda peers: None))
+        for number in (1, 2):
+            talk.table.answered(Contact(id_of(number), ("10.0.0.1", number)), 0.1 * number)
+            talk.tick(0.1 * number)
+        self.assertEqual([address for packet, address in sent if b"9:get_peers" in packet], [("10.0.0.1", 1), ("10.0.0.1", 2)])
+
     def test_two(self) -> None:
         """Of two nodes that know each other alone, one finds the peer that the other one announces to it."""
         net = Net(2)
