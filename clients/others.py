@@ -26,7 +26,7 @@ from fetch.tests.trackers import HttpTracker
 from fetch.wire import PROTOCOL
 
 HERE = Path(__file__).resolve().parent
-READY = 60.0  # seconds until a client answers
+READY = 300.0  # seconds until a client answers, since a seeder may hash 4 GiB before, on a busy machine
 CHUNK = 1 << 20
 NETWORK = "10.77.0."
 LOCAL = "127.0.0.1"
