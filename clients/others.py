@@ -26,11 +26,12 @@ from fetch.tests.trackers import HttpTracker
 from fetch.wire import PROTOCOL
 
 HERE = Path(__file__).resolve().parent
-READY = 60.0  # seconds until a client answers
+READY = 300.0  # seconds until a client answers, since a seeder may hash 4 GiB before, on a busy machine
 CHUNK = 1 << 20
 NETWORK = "10.77.0."
 LOCAL = "127.0.0.1"
 INSIDE = "PIECEPICK_NETWORK"  # in the environment: the network is there
+PYTHON = "/usr/bin/python3"  # Debian's, which has libtorrent. Ours runs by it too: another one's own packages may make its start the longer one
 SHORTEST = 5  # seconds between two announces of a client, for those that wait for the tracker to name others
 
 
@@ -364,7 +365,7 @@ def rtorrent(place: Place, seeds: bool, kilobytes: int = 0) -> Client:
 def libtorrent(place: Place, rate: int, seconds: int, is_sequential: bool) -> Client:
     """libtorrent-rasterbar with deadlines for the next seconds of a player, who reads so many bytes a second at its output."""
     (host, port), room = place.address(), place.room("libtorrent", False)
-    command = ["/usr/bin/python3", str(HERE / "player_libtorrent.py"), str(place.torrent), str(room), host, str(port), str(rate), str(seconds)]
+    command = [PYTHON, str(HERE / "player_libtorrent.py"), str(place.torrent), str(room), host, str(port), str(rate), str(seconds)]
     command += ["--sequential"] if is_sequential else []
     return place.start("libtorrent", command, host, port, room / "content", subprocess.PIPE)
 
@@ -373,7 +374,7 @@ def libtorrent_peer(place: Place, seeds: bool, words: tuple[str, ...] = (), torr
     """libtorrent-rasterbar by its own settings, as a seeder, or as a leecher that ends when it has all."""
     (host, port), room = at or place.address(), place.room("libtorrent", seeds)
     script = str(HERE / "fetch" / "tests" / "libtorrent_peer.py")
-    command = ["/usr/bin/python3", script, torrent or str(place.torrent), str(room), host, str(port), *words, *(["--stays"] if seeds else [])]
+    command = [PYTHON, script, torrent or str(place.torrent), str(room), host, str(port), *words, *(["--stays"] if seeds else [])]
     return place.start("libtorrent", command, host, port, room / "content")
 
 
@@ -404,7 +405,7 @@ def fetch(
 ) -> Client:
     """The downloader of this folder. It has no DHT, unless its words say so."""
     (host, port), room = place.address(), place.room("fetch", seeds)
-    command = [sys.executable, str(HERE / "fetch.py"), "--quiet", "--json", "--no-dht", "--bind", host, "--port", str(port), *words]
+    command = [PYTHON, str(HERE / "fetch.py"), "--quiet", "--json", "--no-dht", "--bind", host, "--port", str(port), *words]
     command += ["--up", str(kilobytes)] if kilobytes else []
     command += [torrent or str(place.torrent), str(room / "content"), *peers]
     return place.start("fetch", command, host, port, room / "content", subprocess.PIPE)

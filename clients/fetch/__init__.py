@@ -15,7 +15,7 @@ The modules:
     signals, identity           interrupts, and who we are
     parts, transfer, levels     what one download is made of, what runs it, and which files come
     source, magnet, web, urls   where a torrent comes from: a file, a link, or an address of the web
-    following                   the way from a link to its torrent
+    following, loading          the way from a link to its torrent, and what is imported on that way
     metainfo, spans, layout     the files that a metainfo file names, and which bytes of the content lie where
     place, lock                 where a download goes, and that nobody else writes there
     storage, checking, resume   the disk, the threads that hash what is on it, and the file that lets a killed download go on

@@ -8,7 +8,6 @@ import threading
 from collections.abc import Callable
 from dataclasses import dataclass
 
-from . import tracker_udp
 from .tracker import Announce, Event, Told, TrackerFault
 
 FIRST_RETRY = 15.0  # seconds after all trackers failed; it doubles each time
@@ -31,6 +30,8 @@ class Outcome:
 def announce(url: str, request: Announce, tracker_id: bytes = b"", source: str = "", hurries: bool = False) -> Told:
     """Tells one tracker, by the way that its address names, from one of our own addresses."""
     if url.lower().startswith("udp://"):
+        from . import tracker_udp  # here, as the other one
+
         wait, tries = (STOP_SECONDS / 2, 1) if hurries else (tracker_udp.FIRST_WAIT, tracker_udp.TRIES)
         return tracker_udp.announce(url, request, wait, tries, source)
     if url.lower().startswith(("http://", "https://")):

@@ -8,10 +8,11 @@ from . import exchange, metadata
 from .blame import Address
 from .extended import HELLO, Extension, Hello, read_hello, spell_hello
 from .metadata import Assembly, Word
-from .wire import Handshake, Inbound, Message, WireFault, extended_of
+from .wire import Handshake, Inbound, Message, WireFault, extended_of, spell
 
 PIECES = 1 << 23  # as many may the peer's bitfield have, since nobody knows yet how many there are
 MOST_HEARD = 1 << 18  # bytes that are kept for who goes on with the connection
+SHOWS = (Message.BITFIELD, Message.HAVE, Message.HAVE_ALL)
 
 
 class Asking:
@@ -25,7 +26,7 @@ class Asking:
         self.inbound = Inbound(PIECES)
         self.unsent = bytearray(Handshake(infohash, peer_id, has_dht=has_dht).spell())
         self._heard = bytearray()
-        self.is_greeted = False
+        self.is_greeted = self.is_interested = False
         self.hello = Hello()
         self.assembly: Assembly | None = None
         self.info: bytes | None = None
@@ -55,6 +56,9 @@ class Asking:
         for kind, payload in self.inbound.messages(data):
             if kind == Message.EXTENDED:
                 self._hear(*extended_of(payload))
+            elif kind in SHOWS and not self.is_interested and (kind != Message.BITFIELD or any(payload)):
+                self.is_interested = True  # so that it has unchoked us, or soon does, when the dictionary is there
+                self.unsent += spell(Message.INTERESTED)
             if (kind != Message.EXTENDED or payload[0] == HELLO) and len(self._heard) <= MOST_HEARD:
                 self._heard += (1 + len(payload)).to_bytes(4, "big") + bytes([kind]) + payload
 

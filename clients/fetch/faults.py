@@ -7,7 +7,6 @@ from enum import IntEnum
 
 from .metainfo import MetainfoFault
 from .source import NotFound
-from .storage import StorageFault
 
 
 class Ended(IntEnum):
@@ -35,6 +34,8 @@ def named(torrent: str, text: str) -> str:
 
 def fault_of(error: Exception) -> Fault | None:
     """The fault that an exception stands for; None where it is a mistake of the program."""
+    from .storage import StorageFault  # here, so that all that goes well starts sooner
+
     if isinstance(error, NotFound):
         return Fault(Ended.NOT_DONE, str(error))
     if isinstance(error, MetainfoFault):

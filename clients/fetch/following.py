@@ -4,9 +4,9 @@ from __future__ import annotations
 
 import time
 from contextlib import suppress
+from typing import TYPE_CHECKING
 
 from .addresses import Origin, looked_up
-from .announcing import Announcer
 from .identity import NO_PORT, new_peer_id
 from .magnet import Magnet
 from .metainfo import is_private, metainfo_of
@@ -14,7 +14,9 @@ from .options import Options
 from .reach import Reach
 from .seeking import Seeker
 from .source import NotFound, Source
-from .tracker import Announce, Event
+
+if TYPE_CHECKING:  # who has no tracker starts sooner without them
+    from .tracker import Announce, Event
 
 UNKNOWN_LEFT = 1 << 14  # what a tracker is told to be left, where nobody knows: some give no peers to who needs nothing
 
@@ -26,8 +28,10 @@ class Following:
         self.link, self.options = link, options
         self.node = reach.node()
         self.seeker = seeker = Seeker(link.infohash, new_peer_id(), options.bind, self.node is not None)
-        trackers = [[url] for url in link.trackers] if options.asks_trackers else []
-        seeker.announcer = Announcer(trackers, self._announce, seeker.wake, options.bind)
+        if link.trackers and options.asks_trackers:
+            from .announcing import Announcer
+
+            seeker.announcer = Announcer([[url] for url in link.trackers], self._announce, seeker.wake, options.bind)
         self._search = self.node.search(link.infohash, 0, seeker.hear_of) if self.node else None
         self._local = reach.local()
         self._announced = self._local.add(link.infohash, 0, seeker.hear_of) if self._local else None
@@ -39,12 +43,14 @@ class Following:
                 seeker.addresses.add(looked_up(address), Origin.USER)
 
     def _announce(self, event: Event) -> Announce:
+        from .tracker import Announce
+
         return Announce(self.link.infohash, self.seeker.peer_id, NO_PORT, 0, 0, UNKNOWN_LEFT, event, 0)
 
     def turn(self) -> Source | None:
         """One turn of the loop; the torrent once it is there. Raises NotFound where nobody can give it, or the user ends it."""
         seeker, give_up = self.seeker, self.options.give_up
-        if not (seeker.addresses.known or self.node or self._local or (seeker.announcer and seeker.announcer.tiers)):
+        if not (seeker.addresses.known or self.node or self._local or seeker.announcer):
             raise NotFound("no peer is known: HOST:PORT behind OUT names one")
         seeker.turn()
         if seeker.info is not None:

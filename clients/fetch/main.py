@@ -36,6 +36,11 @@ def list_files(options: Options) -> None:
             print("\n".join([*([torrent] if options.more else []), *listing.lines(source.metainfo)]))
 
 
+def load() -> None:
+    """Imports what a download needs, and with it the library."""
+    from . import running  # noqa: F401
+
+
 def download(options: Options) -> Ended:
     """Does what the options say."""
     if options.lists:
@@ -43,16 +48,17 @@ def download(options: Options) -> Ended:
         return Ended.DONE
     if options.picture:
         try_picture(options.picture)
-    from .running import fetch  # the first thing that needs the library
-    from .several import Several
-
     with closing(Reach(options)) as reach, closing(Progress(options.quiet)) as progress:
         if options.more:
+            from .several import Several
+
             several = Several(options, reach)
             with ends_in_order(several):
                 return several.run()
-        source = obtain(options, reach, ends_in_order, progress.tell)
+        source = obtain(options, reach, ends_in_order, progress.tell, load)
         progress.end()
+        from .running import fetch
+
         return Ended.DONE if fetch(source, options, reach) else Ended.NOT_DONE
 
 

@@ -52,6 +52,7 @@ class Peer:
     events: int = 0  # of the selector
 
     chokes_us: bool = True
+    has_choked: bool = False  # it did so just now, and the picker doesn't know yet
     we_choke: bool = True
     interests_us: bool = False
     is_interested: bool = False

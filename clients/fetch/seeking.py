@@ -10,14 +10,17 @@ import selectors
 import socket
 import time
 from dataclasses import dataclass
+from typing import TYPE_CHECKING
 
 from .addresses import Addresses, Origin, is_loopback
-from .announcing import Announcer
 from .asking import Asking
 from .blame import Address
 from .metadata import LARGEST, WrongInfo
 from .partings import Partings
 from .wire import WireFault
+
+if TYPE_CHECKING:
+    from .announcing import Announcer
 
 MOST_CONNECTIONS = 20
 MOST_BYTES = 2 * LARGEST  # of info dictionaries that come at a time
@@ -32,11 +35,12 @@ TICK = 0.2
 
 @dataclass(frozen=True)
 class Met:
-    """A connection for who goes on with it, and what its peer has said."""
+    """A connection for who goes on with it, what its peer has said, and whether we have said that we are interested."""
 
     connection: socket.socket
     address: Address
     heard: bytes
+    is_interested: bool
 
 
 @dataclass(eq=False)
@@ -193,7 +197,7 @@ class Seeker:
             if known and known.origin in origins and (heard := link.asking.heard) is not None:
                 self._selector.unregister(link.connection)
                 self.links.discard(link)
-                met.append(Met(link.connection, link.address, heard))
+                met.append(Met(link.connection, link.address, heard, link.asking.is_interested))
         return met
 
     def close(self) -> None:

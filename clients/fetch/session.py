@@ -120,6 +120,8 @@ class Session:
             raise WireFault(str(fault)) from fault
         finally:
             self._measure(peer)
+        if peer.has_choked:
+            self._heed_choke(peer)
         self.ask(peer)
 
     def _measure(self, peer: Peer) -> None:
@@ -133,15 +135,24 @@ class Session:
     # What the peer says.
 
     def _choke(self, peer: Peer, payload: memoryview) -> None:
+        """By BEP 6 what was requested stands until it is rejected. It counts as lost all the same, unless an unchoke comes right behind.
+
+        libtorrent says both to a peer that it has unchoked already, and that is interested now.
+        """
         numbers_of(Message.CHOKE, payload)
-        peer.chokes_us = True
+        peer.chokes_us = peer.has_choked = True
+        if not peer.is_fast:
+            self._heed_choke(peer)
+
+    def _heed_choke(self, peer: Peer) -> None:
+        peer.has_choked = False
         self._take_back_all(peer)
         peer.pace.fill(False, self.now)
         self.picker.choke(peer.worker)
 
     def _unchoke(self, peer: Peer, payload: memoryview) -> None:
         numbers_of(Message.UNCHOKE, payload)
-        peer.chokes_us = False
+        peer.chokes_us = peer.has_choked = False
         peer.block_came = self.now
         self.picker.unchoke(peer.worker)
 
@@ -194,6 +205,11 @@ class Session:
         if peer.is_interested:
             peer.is_interested = False
             peer.say(Message.NOT_INTERESTED)
+
+    def review_interest(self, peer: Peer) -> None:
+        """We may have said that we are interested before it was known what there is."""
+        if not self.picker.is_interesting(peer.worker):
+            self._lose_interest(peer)
 
     def _request(self, peer: Peer, payload: memoryview) -> None:
         piece, begin, length = numbers_of(Message.REQUEST, payload)
@@ -385,7 +401,6 @@ class Session:
 
     def follow_rate(self, peer: Peer) -> None:
         """The peer's depth follows its rate: up at once, and down by steps. What is asked stays asked."""
-        peer.pace.follow(self.now)
         before = peer.depth
         if peer.by_rate.follow(milliseconds(self.now)) != before:
             self.picker.depth(peer.worker, peer.depth)

@@ -81,16 +81,21 @@ def read(options: Options) -> Source:
     return Source(metainfo)
 
 
-def obtain(options: Options, reach: Reach, guard: Guard, tell: Callable[[str], None]) -> Source:
-    """The torrent that the options name. Raises OSError, ValueError, MetainfoFault and NotFound.
+def obtain(options: Options, reach: Reach, guard: Guard, tell: Callable[[str], None], load: Callable[[], None] = lambda: None) -> Source:
+    """The torrent that the options name. Raises OSError, ValueError, MetainfoFault and NotFound, and what `load` raises.
 
-    `guard` is entered with what can be stopped while a magnet link is followed, and `tell` gets a line now and then.
+    `guard` is entered with what can be stopped while a magnet link is followed, and `tell` gets a line now and then. `load` imports what is
+    needed next. For a magnet link that is done while peers are waited for.
     """
     if not is_magnet(options.torrent):
+        load()
         return read(options)
     from .following import Following  # here, so that all others start sooner
+    from .loading import Loading
 
     with closing(Following(magnet.parse(options.torrent), options, reach)) as following, guard(following.seeker):
+        loading = Loading(load, following.seeker.wake)
         while (source := following.turn()) is None:
+            loading.check()
             tell(following.line)
         return source

@@ -144,17 +144,19 @@ class Swarm:
         peer.is_web = True
         return peer
 
-    def take_over(self, connection: socket.socket, address: Address, heard: bytes) -> None:
-        """Goes on with a connection on which we have said who we are, and the peer has said this."""
+    def take_over(self, connection: socket.socket, address: Address, heard: bytes, is_interested: bool) -> None:
+        """Goes on with a connection on which we have said who we are, and that we are interested or not, and the peer has said this."""
         if len(self.peers) >= self.limits.peers or self.addresses.is_banned(address):
             connection.close()
             return
         if known := self.addresses.known.get(address):
             known.is_in_use = True
         peer = self._add(connection, address, is_incoming=False)
-        peer.is_connected = True
+        peer.is_connected, peer.is_interested = True, is_interested
         peer.unsent.clear()
         self._hear(peer, heard)
+        if peer.is_joined:
+            self.session.review_interest(peer)
 
     def _add(self, connection: socket.socket, address: Address, is_incoming: bool) -> Peer:
         peer = Peer(connection, address, is_incoming, Inbound(self.session.layout.pieces), self.session.now)
@@ -333,6 +335,8 @@ class Swarm:
         """What is due five times a second, once a second, and each round of choking."""
         now = self._ticked = self.session.now
         self.connect()
+        for peer in self.session.peers.values():
+            self.session.follow_rate(peer)  # so often, since a new peer may be far quicker than its first depth
         if now - self._slowly_ticked >= SLOW_TICK:
             self._slowly_ticked = now
             for peer in list(self.peers):
@@ -355,7 +359,7 @@ class Swarm:
             self.drop(peer, "has all, as we have")
             self.addresses.postpone(peer.address, now)
             return
-        self.session.follow_rate(peer)
+        peer.pace.follow(now)
         if now - peer.said > KEEPALIVE_SECONDS and not peer.unsent:
             peer.unsent += KEEPALIVE
 

@@ -90,7 +90,7 @@ class Transfer:
         if self.restored_count == 0:  # else the peers are to hear it in the first message, which is over
             while self._met:
                 met = self._met.pop()
-                parts.swarm.take_over(met.connection, met.address, met.heard)
+                parts.swarm.take_over(met.connection, met.address, met.heard, met.is_interested)
         self.finding.tick(self.began)  # at once, and not behind the first wait of the loop
         parts.swarm.connect()
 

@@ -12,6 +12,7 @@ from .messages import Answer, Contact
 from .table import BUCKET, distance, is_public
 
 AT_ONCE = 4  # queries that wait for an answer
+SLOW = 1.0  # seconds, after which a query that waits holds up no other one
 MOST_CANDIDATES = 64
 MOST_QUERIES = 120  # of one lookup, whatever nodes say
 MOST_PEERS = 400
@@ -34,6 +35,7 @@ class Candidate:
     contact: Contact
     apart: int
     state: State = State.NEW
+    asked: float = 0.0  # when it was
     token: bytes = b""
 
 
@@ -61,19 +63,21 @@ class Lookup:
         for node in new[MOST_CANDIDATES:]:
             del self.candidates[node.contact.node_id]
 
-    def _nearest(self) -> list[Candidate]:
-        """The nearest nodes that may still answer, or did."""
-        there = [node for node in self.candidates.values() if node.state is not State.FAILED]
+    def _nearest(self, slow: Iterable[Candidate] = ()) -> list[Candidate]:
+        """The nearest nodes that may still answer, or did; without those that are slow, where they are told."""
+        without = {node.apart for node in slow}
+        there = [node for node in self.candidates.values() if node.state is not State.FAILED and node.apart not in without]
         return sorted(there, key=lambda node: node.apart)[:BUCKET]
 
-    def next(self) -> Contact | None:
-        """Who is to be asked now; it counts as asked."""
-        waiting = sum(node.state is State.ASKED for node in self.candidates.values())
-        if waiting >= AT_ONCE or self.queries >= MOST_QUERIES:
+    def next(self, now: float) -> Contact | None:
+        """Who is to be asked now; it counts as asked. Slow nodes may still answer, and others are asked in their places meanwhile."""
+        waiting = [node for node in self.candidates.values() if node.state is State.ASKED]
+        slow = [node for node in waiting if now - node.asked > SLOW]
+        if len(waiting) - len(slow) >= AT_ONCE or self.queries >= MOST_QUERIES:
             return None
-        for node in self._nearest():
+        for node in self._nearest(slow):
             if node.state is State.NEW:
-                node.state = State.ASKED
+                node.state, node.asked = State.ASKED, now
                 self.queries += 1
                 return node.contact
         return None

@@ -55,24 +55,27 @@ class Node:
     def start(self) -> None:
         """Asks and answers from now on."""
         self._thread.start()
-        if self.first_nodes:
-            threading.Thread(target=self._look_up, name="dht names", daemon=True).start()
+        for address in self.first_nodes:
+            threading.Thread(target=self._look_up, args=[address], name="dht name", daemon=True).start()
 
-    def _look_up(self) -> None:
-        """Finds the addresses of the first nodes, which may take long for names."""
-        for host, port in self.first_nodes:
-            with contextlib.suppress(OSError):
-                where = socket.getaddrinfo(host, port, socket.AF_INET, socket.SOCK_DGRAM)[0][4]
-                self._begin_at((str(where[0]), int(where[1])))
+    def _look_up(self, address: Address) -> None:
+        """Finds where a first node is. For a name that may take long, and none waits for another one's."""
+        with contextlib.suppress(OSError):
+            where = socket.getaddrinfo(*address, socket.AF_INET, socket.SOCK_DGRAM)[0][4]
+            self._begin_at((str(where[0]), int(where[1])))
 
     def _begin_at(self, address: Address) -> None:
-        self._order(lambda: self.talk.first_nodes.append(address))
+        self._order(lambda: self.talk.begin_at(address, time.monotonic()))
 
     def _order(self, order: Callable[[], None]) -> None:
         if self._orders.qsize() < MOST_ORDERS:
             self._orders.put(order)
-            with contextlib.suppress(OSError):
-                self._waker.send(b"\0")
+            self._wake()
+
+    def _wake(self) -> None:
+        """Ends the wait of the node's thread."""
+        with contextlib.suppress(OSError):
+            self._waker.send(b"\0")
 
     def search(self, infohash: bytes, port: int, on_peers: Callable[[list[Address]], None]) -> Search:
         """Looks for peers from now on, and announces us where there is a port. The node's thread calls `on_peers`."""
@@ -128,6 +131,7 @@ class Node:
         """Ends."""
         self._is_closing = True
         if self._thread.is_alive():
+            self._wake()
             self._thread.join(LAST_SECONDS)
         else:
             self._close()

@@ -23,7 +23,7 @@ NEAREST = 16  # nodes with which a lookup begins
 FEW_NODES = 8
 SOON, LATER = 2.0, 300.0  # seconds until a torrent is looked up again: as long as few are found they double, up to the later ones
 FEW_PEERS = 30
-FIRST_RETRY, LONGEST_RETRY = 3.0, 300.0  # seconds until we look again for the nodes near to us; they double
+FIRST_RETRY, LONGEST_RETRY = 1.0, 300.0  # seconds until we look again for the nodes near to us; they double
 MOST_FAR = 20  # buckets that are looked up at a time
 UNKNOWN = b""  # the number of a node of which the address alone is known
 
@@ -63,6 +63,7 @@ class Talk:
         self._own_lookups: list[Lookup] = []
         self._far: list[bytes] = []  # numbers that are looked up once
         self._next_first, self._retry = 0.0, FIRST_RETRY
+        self._way_in = Lookup(self.own, self.own, wants_peers=False)  # the last one
 
     # What is heard.
 
@@ -171,12 +172,25 @@ class Talk:
         if now < self._next_first or not (self.first_nodes or len(self.table)):
             return
         self._next_first, self._retry = now + self._retry, min(2 * self._retry, LONGEST_RETRY)
-        lookup = Lookup(self.own, self.own, wants_peers=False)
+        self._way_in = lookup = Lookup(self.own, self.own, wants_peers=False)
         lookup.add(self.table.nearest(self.own))
         self._own_lookups = [*self._own_lookups[-3:], lookup]
         self._far = self.table.far()[:MOST_FAR]
-        for address in self.first_nodes if len(self.table) < FEW_NODES else []:
-            self._ask(Contact(UNKNOWN, address), Method.FIND_NODE, now, lookup, self.own)
+        for address in self.first_nodes:
+            self._ask_first(address, now)
+
+    def begin_at(self, address: Address, now: float) -> None:
+        """One more first node. Where others were asked already it is asked at once, and not when they are asked again."""
+        self.first_nodes.append(address)
+        if now < self._next_first:
+            self._ask_first(address, now)
+
+    def _ask_first(self, address: Address, now: float) -> None:
+        """Asks a first node for those near to us, as long as few are known."""
+        if len(self.table) < FEW_NODES:
+            self._ask(Contact(UNKNOWN, address), Method.FIND_NODE, now, self._way_in, self.own)
+            if self._way_in not in self._own_lookups:  # it was over
+                self._own_lookups.append(self._way_in)
 
     def _look(self, search: Search, now: float) -> None:
         """Begins, goes on with, or ends the lookup of a torrent. Peers that announced themselves here are found at once."""
@@ -187,8 +201,9 @@ class Talk:
             if now < search.next or not len(self.table):
                 return
             search.lookup = Lookup(search.infohash, self.own, wants_peers=True)
-            search.lookup.add(self.table.nearest(search.infohash, NEAREST))
             search.told = set()
+        if len(search.lookup.candidates) < NEAREST:  # it may have begun when one node was known, whose answer is late
+            search.lookup.add(self.table.nearest(search.infohash, NEAREST))
         self._pump(search.lookup, now)
         if search.lookup.is_done:
             self._announce(search, search.lookup, now)
@@ -198,7 +213,7 @@ class Talk:
     def _pump(self, lookup: Lookup, now: float) -> None:
         """Asks who is next, as far as the bounds allow."""
         method = Method.GET_PEERS if lookup.wants_peers else Method.FIND_NODE
-        while len(self._waiting) < MOST_WAITING and self.asks.is_open(now) and (contact := lookup.next()):
+        while len(self._waiting) < MOST_WAITING and self.asks.is_open(now) and (contact := lookup.next(now)):
             self._ask(contact, method, now, lookup, lookup.target)
 
     def _announce(self, search: Search, lookup: Lookup, now: float) -> None:

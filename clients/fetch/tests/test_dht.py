@@ -6,11 +6,12 @@ import random
 import threading
 import unittest
 from collections.abc import Callable
+from unittest.mock import patch
 
 from bencode import bencode
 from fetch.blame import Address
 from fetch.dht.bounds import PaceByHost
-from fetch.dht.lookup import MOST_CANDIDATES, MOST_QUERIES, Lookup
+from fetch.dht.lookup import AT_ONCE, MOST_CANDIDATES, MOST_QUERIES, SLOW, Lookup
 from fetch.dht.messages import Answer, Contact, DhtFault, Method, Query, Refusal, read, read_contacts, spell_answer, spell_query
 from fetch.dht.node import Node
 from fetch.dht.store import MOST_OF_TORRENT, MOST_TOLD, MOST_TORRENTS, Store, Tokens
@@ -203,6 +204,35 @@ class Nets(unittest.TestCase):
         net.run(30.0)
         self.assertEqual(set(found), {("10.0.0.8", 5555)})
 
+    def test_first_nodes(self) -> None:
+        """A first node whose address comes later is asked at once, also where one that came before doesn't answer."""
+        net = Net(1)
+        new = net.talks[("10.0.0.2", 6881)] = Talk(net.sender(("10.0.0.2", 6881)), [("10.0.0.99", 6881)], ONE)
+        net.run(0.3)
+        self.assertEqual(len(new.table), 0)
+        new.begin_at(("10.0.0.1", 6881), net.now)
+        net.run(0.1)
+        self.assertEqual(len(new.table), 1)
+
+    def test_lost(self) -> None:
+        """A first node whose answer doesn't come is asked again after a second, and then less and less often."""
+        sent: list[float] = []
+        talk = Talk(lambda packet, address: sent.append(now), [("10.0.0.1", 1)], ONE)
+        for tenth in range(100):
+            now = tenth / 10
+            talk.tick(now)
+        self.assertEqual(sent, [0.0, 1.0, 3.0, 7.0])
+
+    def test_search_goes_on(self) -> None:
+        """A search that began at one node goes on at another one that becomes known, though the first one hasn't answered."""
+        sent: list[tuple[bytes, Address]] = []
+        talk = Talk(lambda packet, address: sent.append((packet, address)), [], ONE)
+        talk.searches.append(Search(INFOHASH, 0, lambda peers: None))
+        for number in (1, 2):
+            talk.table.answered(Contact(id_of(number), ("10.0.0.1", number)), 0.1 * number)
+            talk.tick(0.1 * number)
+        self.assertEqual([address for packet, address in sent if b"9:get_peers" in packet], [("10.0.0.1", 1), ("10.0.0.1", 2)])
+
     def test_two(self) -> None:
         """Of two nodes that know each other alone, one finds the peer that the other one announces to it."""
         net = Net(2)
@@ -235,7 +265,7 @@ class Nets(unittest.TestCase):
         chance, lookup = random.Random(1), Lookup(INFOHASH, ONE, wants_peers=True)
         lookup.add([Contact(chance.randbytes(20), ("10.0.0.1", 1))])
         while not lookup.is_done:
-            contact = lookup.next()
+            contact = lookup.next(0.0)
             assert contact is not None
             near = [Contact(INFOHASH[:19] + chance.randbytes(1), (f"10.{chance.randrange(256)}.0.1", 1)) for _ in range(8)]
             near += [Contact(INFOHASH[:16] + chance.randbytes(4), ("8.8.8.8", 1)) for _ in range(8)]
@@ -245,11 +275,24 @@ class Nets(unittest.TestCase):
         self.assertLessEqual(len(lookup.peers), 400)
         self.assertLessEqual(sum(node.contact.address[0] == "8.8.8.8" for node in lookup.candidates.values()), 2)
 
+    def test_slow(self) -> None:
+        """Nodes that take longer than a second hold up no others, and their answers are taken all the same."""
+        lookup = Lookup(bytes(20), ONE, wants_peers=True)
+        lookup.add([Contact(id_of(number), ("127.0.0.1", number)) for number in range(1, 20)])
+        asked = [lookup.next(0.0) for _ in range(AT_ONCE)]
+        self.assertIsNone(lookup.next(SLOW))
+        asked += [lookup.next(SLOW + 0.1) for _ in range(AT_ONCE)]
+        self.assertIsNone(lookup.next(SLOW + 0.2))
+        asked.append(lookup.next(2 * SLOW + 0.2))
+        self.assertEqual([contact and contact.node_id for contact in asked], [id_of(number) for number in range(1, 10)])
+        lookup.answered(Contact(id_of(1), ("127.0.0.1", 1)), Answer(b"", id_of(1), peers=[("10.0.0.1", 1)]))
+        self.assertEqual(lookup.peers, {("10.0.0.1", 1)})
+
     def test_other_number(self) -> None:
         """A node that answers with another number than it was named by isn't announced to."""
         lookup = Lookup(INFOHASH, ONE, wants_peers=True)
         lookup.add([Contact(id_of(1), ("127.0.0.1", 1)), Contact(id_of(2), ("127.0.0.1", 2))])
-        for contact in (lookup.next(), lookup.next()):
+        for contact in (lookup.next(0.0), lookup.next(0.0)):
             assert contact is not None
             lookup.answered(contact, Answer(b"", id_of(1), token=b"token"))
         self.assertTrue(lookup.is_done)
@@ -269,6 +312,14 @@ class BySockets(unittest.TestCase):
         others[0].search(INFOHASH, 4444, lambda peers: None)
         others[1].search(INFOHASH, 0, lambda peers: came.set() if ("127.0.0.1", 4444) in peers else None)
         self.assertTrue(came.wait(60))
+
+    def test_ends(self) -> None:
+        """The end waits for no packet and no tick."""
+        node = Node("127.0.0.1", 0, [])
+        with patch("fetch.dht.node.TICK", 30.0), patch("fetch.dht.node.LAST_SECONDS", 20.0):
+            node.start()
+            node.close()
+        self.assertFalse(node._thread.is_alive())
 
 
 if __name__ == "__main__":

@@ -79,7 +79,7 @@ class Single(Downloading):
         seeder = self.seeder(chokes_each=0)
         seeder.manners.ends_after = 30
         process = self.start("--give-up", "10", seeders=(seeder,))
-        deadline = time.monotonic() + 10
+        deadline = time.monotonic() + 60  # on a busy machine the start alone may take ten seconds
         while seeder.blocks < 30 and time.monotonic() < deadline:
             time.sleep(0.05)
         seeder.manners.ends_after = 1 << 30

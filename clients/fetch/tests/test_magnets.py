@@ -18,15 +18,18 @@ from fetch.asking import Asking
 from fetch.dht.node import Node
 from fetch.metadata import Assembly, Word, WrongInfo
 from fetch.metainfo import MetainfoFault, info_of, infohash_of, is_private, metainfo_of, trackers_of, web_seeds_of
+from fetch.options import Options
 from fetch.peer import Peer
+from fetch.reach import Reach
 from fetch.seeking import Link, Seeker
+from fetch.source import obtain
 from fetch.spans import end_of
 from fetch.wire import Inbound, WireFault
 
 from .spoken import Speaking, message
 from .support import (
-    BITFIELD, BLOCK_MESSAGE, CONTENT, EXTENDED, HAVE, PIECE, PIECES, REQUEST, UNCHOKE, Downloading, flags_of, folder_torrent, messages, say,
-    single_torrent,
+    BITFIELD, BLOCK_MESSAGE, CONTENT, EXTENDED, HAVE, HAVE_ALL, INTERESTED, NOT_INTERESTED, PIECE, PIECES, REQUEST, UNCHOKE, Downloading,
+    flags_of, folder_torrent, messages, say, single_torrent,
 )  # fmt: skip
 from .trackers import HttpTracker
 
@@ -149,6 +152,16 @@ class Heard(unittest.TestCase):
         asking.unsent.clear()
         self.assertEqual(asking.heard, first + hello + shown + begun)
 
+    def test_interested(self) -> None:
+        """Who shows something hears at once, and once, that we are interested: it may unchoke us before the dictionary is there."""
+        for shown in (message(BITFIELD, data=b"\0\x10"), message(HAVE_ALL), message(HAVE, 7)):
+            asking = Asking(INFOHASH, b"-PP0000-abcdefghijkl", lambda size: True, lambda peers: None)
+            asking.receive(b"\x13BitTorrent protocol" + b"\0\0\0\0\0\x10\0\4" + INFOHASH + bytes(20) + message(BITFIELD, data=b"\0\0"))
+            self.assertFalse(asking.is_interested)
+            asking.unsent.clear()
+            asking.receive(shown + message(HAVE, 8))
+            self.assertEqual((asking.unsent, asking.is_interested), (message(INTERESTED), True))
+
     def test_bounded(self) -> None:
         asking = Asking(INFOHASH, b"-PP0000-abcdefghijkl", lambda size: True, lambda peers: None)
         asking.receive(b"\x13BitTorrent protocol" + b"\0\0\0\0\0\x10\0\0" + INFOHASH + bytes(20))
@@ -157,6 +170,37 @@ class Heard(unittest.TestCase):
             asking.receive(message(BITFIELD, data=bytes(1 << 13)))
         self.assertIsNone(asking.heard)
         self.assertLess(len(asking._heard), 1 << 19)
+
+
+class TakenOver(Speaking):
+    """What a peer hears that was told too early that we are interested, or rightly."""
+
+    had = 0
+
+    def take_over(self, shown: bytes) -> bytes:
+        """A peer that has told this is gone on with; what it is told."""
+        ours, its = socket.socketpair()
+        self.addCleanup(its.close)
+        self.addCleanup(ours.close)
+        swarm = self.download.parts.swarm
+        infohash = self.download.parts.content.infohash
+        heard = b"\x13BitTorrent protocol" + bytes(7) + b"\4" + infohash + b"-XX0000-abcdefghijkl" + shown
+        swarm.take_over(ours, ("10.0.0.1", 1), heard, True)
+        (peer,) = swarm.peers
+        return bytes(peer.unsent)
+
+    def test_not_twice(self) -> None:
+        """It has something for us, and is asked for it with no other word."""
+        said = self.take_over(message(HAVE_ALL) + message(UNCHOKE))
+        self.assertNotIn(message(INTERESTED), said)
+        self.assertNotIn(message(NOT_INTERESTED), said)
+        self.assertIn(b"\0\0\0\x0d\6", said)
+
+    def test_too_early(self) -> None:
+        """It has nothing of what is wanted."""
+        for piece in range(PIECES):
+            self.download.parts.picker.set_level(piece, 0 if piece == 3 else 4)
+        self.assertIn(message(NOT_INTERESTED), self.take_over(message(HAVE, 3)))
 
 
 class Room(unittest.TestCase):
@@ -174,6 +218,24 @@ class Room(unittest.TestCase):
             seeker.links.add(Link(connection, ("10.0.0.1", 1 + number), asking, 0.0, 0.0))
         self.assertFalse(seeker._may_begin(1 << 23))
         self.assertTrue(seeker._may_begin(1 << 18))
+
+
+class Loaded(unittest.TestCase):
+    """What is imported while a link is followed."""
+
+    def test_meanwhile(self) -> None:
+        """A peer is connected before the imports are over. Where one of them can't be had, the link is followed no longer."""
+        listener = socket.create_server(("127.0.0.1", 0))
+        self.addCleanup(listener.close)
+        listener.settimeout(60.0)
+
+        def load() -> None:
+            listener.accept()[0].close()
+            raise ImportError("there is no library")
+
+        options = Options(f"magnet:?xt=urn:btih:{HEX}", peers=[listener.getsockname()], asks_trackers=False)
+        with self.assertRaisesRegex(ImportError, "there is no library"):
+            obtain(options, Reach(options), lambda loop: contextlib.nullcontext(), lambda text: None, load)
 
 
 class Given(Speaking):

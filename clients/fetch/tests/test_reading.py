@@ -210,7 +210,7 @@ class Reached(Reading):
             self.session.now += 1.0
             (piece, begin) = next(iter(peer.asked))
             self.hear(peer, message(BLOCK_MESSAGE, piece, begin, data=CONTENT[piece * PIECE + begin :][:BLOCK]))
-        self.session.follow_rate(peer)
+        peer.pace.follow(self.session.now)
         self.assertAlmostEqual(peer.pace.rate or 0.0, BLOCK, delta=1.0)
         self.assertEqual(self.session.lines()[0].shows.bit_count(), PIECES)
 

@@ -6,6 +6,7 @@ import unittest
 
 from fetch.peer import FIRST_DEPTH, Peer, milliseconds
 from fetch.session import MOST_TIMEOUTS, REJECT_REST, REST, SILENCE
+from fetch.swarm import TICK
 from fetch.wire import WireFault
 
 from .spoken import Speaking, message
@@ -51,6 +52,14 @@ class Asked(Speaking):
         peer = self.joined()
         self.assertEqual(len(peer.asked), FIRST_DEPTH)
         self.assertEqual(self.download.parts.picker.outstanding(peer.worker), FIRST_DEPTH)
+
+    def test_quick(self) -> None:
+        """A new peer that is quicker than its first depth is asked for more at the next tick, and not a second later."""
+        peer = self.joined()
+        peer.by_rate.came(100 * BLOCK, milliseconds(self.session.now))
+        self.session.now += TICK
+        self.download.parts.swarm._tick()
+        self.assertEqual(len(peer.asked), 100 + LEAST_DEPTH)
 
     def test_time_out(self) -> None:
         """A silent peer's requests are taken back after they were late; then it rests, and others may be asked."""
@@ -139,6 +148,23 @@ class Asked(Speaking):
         self.assertEqual((len(peer.asked), self.session.asks), (0, {}))
         self.bring(peer, block)
         self.assertIn(block[0], self.download.parts.content.held)
+
+    def test_choke_at_once(self) -> None:
+        """With the fast extension a choke with an unchoke right behind takes back nothing but what is rejected (BEP 6)."""
+        peer = self.joined()
+        block, other, *rest = peer.asked
+        said = self.hear(peer, message(CHOKE) + message(REJECT, *block, BLOCK) + message(UNCHOKE))
+        self.assertEqual((said, list(peer.asked)), (b"", [other, *rest]))
+        self.bring(peer, other)
+        self.assertIn(other[0], self.download.parts.content.held)
+        self.assertEqual(list(peer.late), [block])
+
+    def test_choke_at_once_plain(self) -> None:
+        """Without that extension all is asked for again (BEP 3)."""
+        peer = self.peer(False)
+        self.hear(peer, message(BITFIELD, data=flags_of(range(PIECES))) + message(UNCHOKE))
+        self.hear(peer, message(CHOKE) + message(UNCHOKE))
+        self.assertEqual((len(peer.asked), self.session.figures.requests), (FIRST_DEPTH, 2 * FIRST_DEPTH))
 
     def test_unasked(self) -> None:
         """A block that nobody asked for is no more than counted, so that nobody fills pieces with nonsense."""
