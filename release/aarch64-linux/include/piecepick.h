@@ -11,7 +11,7 @@
    PIECEPICK_E_. Three of them may come of what a peer sent: at PIECE, BITS_LENGTH and SPARE_BITS let that peer go.
    A call whose status isn't PIECEPICK_OK has changed nothing that a later call can tell, and may be made again. A journal alone gets one more entry
    where piecepick_job_settle says STALE or NOT_WAITING: the refusal. Of several causes the call reports the first: statuses before refusals, each
-   in the order in which the call lists them. At piecepick_restore NOT_JOINED comes behind WORKER and before PIECE. Lengths are in bytes.
+   in the order in which the call lists them. At piecepick_restore and piecepick_resume NOT_JOINED comes behind WORKER and before PIECE. Lengths are in bytes.
 
    The interface is that of version 1. PIECEPICK_ABI, the name of the shared object and the first number of the version rise together, and only
    where a caller has to be changed or compiled anew. A version whose second number rises may add calls, statuses, kinds, reasons and rules, and
@@ -19,15 +19,15 @@
 
    What the library can't test, and the caller must see to:
    - A digest that you pass is the SHA-1 of the bytes that it is passed for (piecepick_settle, piecepick_restore), and a verdict says whether these
-     have the piece's hash (piecepick_verdict). Of a block that came twice these are the bytes that came first. So where the picker keeps nothing,
-     write a block's bytes where piecepick_arrived answers STORED or FULL, and at no other answer. Throw away what is DROPPED. Else a good piece
-     fails, and piecepick_sender names an honest peer.
+     have the piece's hash (piecepick_verdict, piecepick_resume). Of a block that came twice these are the bytes that came first. So where the picker
+     keeps nothing, write a block's bytes where piecepick_arrived or piecepick_received answers STORED or FULL, and at no other answer. Throw away
+     what is DROPPED. Else a good piece fails, and piecepick_sender names an honest peer.
    - A pointer to a picker or a job starts as NULL. It is filled and freed by its own two calls alone, and isn't NULL at any other.
    - Each other pointer is valid for its call: an answer and a number may be written, a buffer has the length that is given with it, isn't NULL
      (also at length 0: pass any valid pointer) and isn't freed meanwhile. What is written lies in nothing else that is passed.
-   - One call at a time at each picker, and at each job. Where nothing is kept, the caller's lock is held over an arrival and the write of its bytes:
-     else another thread may hash the piece before they are written. The library takes no lock and keeps no state of its own. So other pickers
-     may be used meanwhile, and a picker may go to another thread under the caller's lock.
+   - One call at a time at each picker, and at each job: threads hold a mutex of the caller's over each call. Where nothing is kept, they hold it
+     over an arrival and the write of its bytes: else another thread may hash the piece before they are written. The library takes no lock and
+     keeps no state of its own. So other pickers may be used meanwhile, and a picker may go to another thread under the caller's lock.
    - malloc, realloc and free come from one allocator. No call is made in a signal handler, or in the forked child of a process with threads.
    - The processor has the level x86-64-v2 (SSSE3, SSE4.1), where the library wasn't built for another. */
 #ifndef PIECEPICK_H
@@ -41,9 +41,9 @@ extern "C" {
 /** Compare it with piecepick_abi() before the first other call. It rises with each change that an older caller can't bear. */
 #define PIECEPICK_ABI 1u
 /** The version as a text. Its first number is that of the interface. */
-#define PIECEPICK_VERSION "1.0.0"
+#define PIECEPICK_VERSION "1.1.0"
 /** The version as a number: compare it with piecepick_version(). */
-#define PIECEPICK_VERSION_NUMBER 10000u
+#define PIECEPICK_VERSION_NUMBER 10100u
 
 #if defined(__GNUC__) || defined(__clang__)
 /** A status that isn't looked at is a warning. */
@@ -212,6 +212,10 @@ PIECEPICK_MUST piecepick_status piecepick_lack(piecepick_picker *picker, uint32_
    REFUSED by NOT_JOINED, NO_SUCH_BLOCK or WRONG_LENGTH. */
 PIECEPICK_MUST piecepick_status piecepick_arrived(piecepick_picker *picker, uint32_t worker, uint32_t piece, uint32_t begin, const uint8_t *bytes,
                                                   size_t bytes_len, piecepick_answer *answer);
+/** KEEPS_NOTHING: as piecepick_arrived, for a block whose bytes are elsewhere, in a cache or on their way to the disk: it is told how many they are.
+   STORED, FULL or DROPPED; REFUSED by NOT_JOINED, NO_SUCH_BLOCK or WRONG_LENGTH. KEEPS, before the other two. */
+PIECEPICK_MUST piecepick_status piecepick_received(piecepick_picker *picker, uint32_t worker, uint32_t piece, uint32_t begin, size_t bytes_len,
+                                                   piecepick_answer *answer);
 /** The block that begins `begin` bytes into the piece is requested from the peer no more: the peer rejected it (BEP 6), or the request was not
    sent. It may be requested again from any peer, and it is kept if it comes after all. QUIET, or REFUSED by NOT_JOINED or NOT_REQUESTED. */
 PIECEPICK_MUST piecepick_status piecepick_release(piecepick_picker *picker, uint32_t worker, uint32_t piece, uint32_t begin, piecepick_answer *answer);
@@ -275,6 +279,9 @@ PIECEPICK_MUST piecepick_status piecepick_verdict(piecepick_picker *picker, uint
    BEGUN. Report blocks of a piece that isn't whole by piecepick_arrived: they stay held after the worker's leave. */
 PIECEPICK_MUST piecepick_status piecepick_restore(piecepick_picker *picker, uint32_t worker, uint32_t piece, const uint8_t *bytes, size_t bytes_len,
                                                   const piecepick_digest *digest, piecepick_answer *answer);
+/** KEEPS_NOTHING: as piecepick_restore, for a whole piece that you have compared yourself: `passed` isn't 0 where it has the hash of the metainfo
+   file. COMPLETE, FAILED, or REFUSED by NOT_JOINED. KEEPS, WORKER, PIECE, BEGUN. */
+PIECEPICK_MUST piecepick_status piecepick_resume(piecepick_picker *picker, uint32_t worker, uint32_t piece, uint32_t passed, piecepick_answer *answer);
 
 /* KEEPS_BEGUN and KEEPS_JOURNAL: the check of a full piece, away from its picker, in these five steps. */
 /** Fills a NULL pointer with a job. OPEN, KEEPS, PIECE, NOT_WAITING, MEMORY. */

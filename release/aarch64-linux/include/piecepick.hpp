@@ -1,6 +1,6 @@
 /* piecepick.hpp: piecepick.h for C++17. A call that does nothing throws an Error with its status. That is an exception and no error code since
    refusals come as answers: a status is a mistake of the caller, or want of memory. Three may come of what a peer sent: catch the Error of `bits`,
-   `haves`, `have`, `lack`, `arrived`, `release` and `late`, and at PIECE, BITS_LENGTH and SPARE_BITS let that peer go.
+   `haves`, `have`, `lack`, `arrived`, `received`, `release` and `late`, and at PIECE, BITS_LENGTH and SPARE_BITS let that peer go.
 
    What piecepick.h says of its calls holds here too: one call at a time at each picker and each job, also of those that change nothing. So
    none of them is const. */
@@ -187,6 +187,10 @@ public:
     {
         return answer(piecepick_arrived, worker, piece, begin, bytes.data(), bytes.size());
     }
+    [[nodiscard]] Answer received(std::uint32_t worker, std::uint32_t piece, std::uint32_t begin, std::size_t length)
+    {
+        return answer(piecepick_received, worker, piece, begin, length);
+    }
     [[nodiscard]] Answer next(std::uint32_t worker, std::uint64_t word) { return answer(piecepick_next, worker, word); }
 
     /* What is to be downloaded. */
@@ -204,6 +208,10 @@ public:
     [[nodiscard]] Answer restore(std::uint32_t worker, std::uint32_t piece, Bytes bytes, const Digest &digest)
     {
         return answer(piecepick_restore, worker, piece, bytes.data(), bytes.size(), &digest);
+    }
+    [[nodiscard]] Answer resume(std::uint32_t worker, std::uint32_t piece, bool passed)
+    {
+        return answer(piecepick_resume, worker, piece, std::uint32_t{passed});
     }
     [[nodiscard]] Job job_take(std::uint32_t piece) { return Job(get(), piece); }
     [[nodiscard]] Answer settle(Job &job) { return answer(piecepick_job_settle, job.get()); }
