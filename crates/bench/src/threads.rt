@@ -134,9 +134,14 @@ fn call_locked_together<R: Runtime + AllocGlobal + Clock + Threads + Wait + Sync
     let picker = locked::open(alloc, threads, pieces)?;
     let shared = &picker;
     let start = rt.monotonic()?;
-    let tallies = thread::map_indices(rt, alloc, threads as usize, &|index: usize| -> Option<Tally> {
-        locked::hammer(rt, alloc, shared, index as u32, pieces, pairs)
-    })?;
+    let tallies = thread::map_indices(
+        rt,
+        alloc,
+        threads as usize,
+        &|index: usize| -> Option<Tally> {
+            locked::hammer(rt, alloc, shared, index as u32, pieces, pairs)
+        },
+    )?;
     let took = rt.monotonic()?.saturating_sub(start);
     Ok((sum(&tallies)?, took))
 }

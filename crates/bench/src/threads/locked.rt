@@ -1,7 +1,5 @@
 //! The same picker under std's mutex, to compare with: no pass goes with it, and a thread says which worker it is.
 
-ghost use Rattle.std.specs.Prelude.{◌≤◌};
-
 use super::hammer::{Tally, rules_for};
 use crate::swarm::{ZEROS, full, torrent};
 use anyhow::{Result, ensure};

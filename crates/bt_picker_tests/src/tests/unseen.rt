@@ -19,7 +19,10 @@ fn receives(
 ) {
     let (piece, begin) = place;
     let unseen = Unseen::of(bytes);
-    assert_eq!(rt; picker.received(worker, piece, begin, &unseen, bytes.len()), wanted);
+    assert_eq!(rt;
+        picker.received(worker, piece, begin, &unseen, bytes.len()),
+        wanted
+    );
 }
 
 /// The disk has these bytes of the piece, and its client has compared them.
