@@ -152,6 +152,25 @@ fn fetch<D: Shareable>(words: &Words<D>, seat: &mut DeskSeat<D>) -> Box<D>
     desk
 }
 
+/// Takes the word with the desk, if it is free. Else nothing changes.
+fn take_free<D: Shareable>(words: &Words<D>, seat: &mut DeskSeat<D>) -> Option<Box<D>>
+    requires desk { IsDesk words.now.table_id.words words.now.table_id.slots × (seat.old.table_id ≡ words.now.table_id) }
+    requires may { MayTake seat.old.me }
+    ensures same { (seat.new.table_id ≡ seat.old.table_id) × (seat.new.id ≡ seat.old.id) }
+    ensures found { IfSome result (λ desk. Fits (D.state desk.value).setting (D.state desk.value).history seat.old.me.0
+        × (seat.old.me.0.setting ≡ (D.state desk.value).setting)) }
+    ensures taken { IfSome result (λ desk.
+        seat.new.me ≡ (seeing true seat.old.me.0 (D.state desk.value).history, (0, None) ∷ [])) }
+    ensures legal { IfSome result (λ desk. IsLegal (D.state desk.value).setting (D.state desk.value).history) }
+    ensures busy { IfNone result (seat.new.me ≡ seat.old.me) }
+{
+    if words.compare_exchange::<Take>(seat, 0, FREE, TAKEN) == FREE {
+        Some(fetch(words, seat))
+    } else {
+        None
+    }
+}
+
 /// Takes the word with the desk, if it is found free within so many looks as take some microseconds. Else nothing changes.
 pub(crate) fn try_lock<D: Shareable>(words: &Words<D>, seat: &mut DeskSeat<D>) -> Option<Box<D>>
     requires desk { IsDesk words.now.table_id.words words.now.table_id.slots × (seat.old.table_id ≡ words.now.table_id) }
@@ -165,15 +184,32 @@ pub(crate) fn try_lock<D: Shareable>(words: &Words<D>, seat: &mut DeskSeat<D>) -
     ensures busy { IfNone result (seat.new.me ≡ seat.old.me) }
 {
     for _ in 0..LOOKS {
-        if words.peek(0) == FREE && words.compare_exchange::<Take>(seat, 0, FREE, TAKEN) == FREE {
-            return Some(fetch(words, seat));
+        if words.peek(0) == FREE {
+            if let Some(desk) = take_free(words, seat) {
+                return Some(desk);
+            }
         }
         hint::spin_loop();
     }
     None
 }
 
-/// Waits for the word, and takes the desk out of its slot. A thread that doesn't find the word free soon sleeps until another frees it.
+/// What the word is once it is free or others sleep for it, or that it is taken still after some microseconds.
+fn look<D: Shareable>(words: &Words<D>) -> u64
+    requires { IsDesk words.now.table_id.words words.now.table_id.slots }
+{
+    for _ in 0..LOOKS {
+        let seen = words.peek(0);
+        if seen != TAKEN {
+            return seen;
+        }
+        hint::spin_loop();
+    }
+    TAKEN
+}
+
+/// Waits for the word, and takes the desk out of its slot. A thread that doesn't find the word free soon sleeps until another frees it. It
+/// sleeps at once where others do already: were all to look, who has the desk would be held up.
 pub(crate) fn lock<D: Shareable, R: Wait>(
     rt: &R,
     words: &Words<D>,
@@ -187,15 +223,22 @@ pub(crate) fn lock<D: Shareable, R: Wait>(
     ensures taken { seat.new.me ≡ (seeing true seat.old.me.0 (D.state result.value).history, (0, None) ∷ []) }
     ensures legal { IsLegal (D.state result.value).setting (D.state result.value).history }
 {
-    if let Some(desk) = try_lock(words, seat) {
+    if let Some(desk) = take_free(words, seat) {
         return desk;
+    }
+    let mut seen = look(words);
+    if seen == FREE {
+        if let Some(desk) = take_free(words, seat) {
+            return desk;
+        }
     }
     for _ in rt.forever() {
         // Who frees the word now wakes one that sleeps.
-        if words.swap::<Take>(seat, 0, AWAITED) == FREE {
+        if seen != AWAITED && words.swap::<Take>(seat, 0, AWAITED) == FREE {
             return fetch(words, seat);
         }
         words.park(rt, 0, AWAITED as u32);
+        seen = look(words);
     }
     unreachable!()
 }
