@@ -338,6 +338,7 @@ impl<'a> Position<'a> {
     }
 
     /// Whether the block is asked of the worker's peer, and the peer isn't late with it.
+    #[inline(always)]
     pub fn expects(&self, worker: u32, block: &Block) -> bool
         requires { worker < self.now.setting.workers }
         ensures { result ≡ expected self.now.history worker block.now }
@@ -357,6 +358,7 @@ impl<'a> Position<'a> {
     }
 
     /// Whether some peer is late with the block.
+    #[inline(always)]
     pub fn is_late_at_some(&self, piece: u32, index: u32) -> bool
         requires piece { piece < piece_count self.now.setting.torrent }
         requires index { index < block_count self.now.setting.torrent piece }

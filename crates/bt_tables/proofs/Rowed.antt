@@ -1,6 +1,6 @@
 -- Rows as they are kept: what is read of one, and what a change of its counts and its cells makes of all.
 use Rattle.std.proofs.Common.{◌≡◌, ◌<◌, ◌≤◌, ◌+◌, ◌*◌, ◌-◌, ◌∙◌, ℕ, zero, suc, List, [], ◌∷◌, length, get_or, set, take, drop, min, ap, arith, refl}
-use Rattle.std.proofs.Common.{subst, sym, length-set, ⊎_elim}
+use Rattle.std.proofs.Common.{subst, sym, length-set, ⊎_elim, ◌==◌, ◌&&◌, ◌||◌, not}
 use Rattle.std.proofs.Math.Nat.{min-le_left, min-le_right, mul-le-mul_right, suc-mul, zero-mul}
 use Rattle.std.proofs.Math.Seq.{take-set-lt}
 use Rattle.std.proofs.lemmas.Bool.{cases_eq, cases_lt}
@@ -8,8 +8,9 @@ use Rattle.std.proofs.lemmas.List.{get_or_default, drop-drop, drop-set-add, drop
 use Rattle.std.proofs.lemmas.List.{get_or-take, length-drop, length-map, length-take, map-set, take-set-le, take_all}
 use Rattle.bt_tables.specs.declared.cell.Cell.{Cell}
 use Rattle.bt_tables.specs.declared.counts.Counts.{Counts}
-use Rattle.bt_tables.specs.Rows.{AreKept, Keeps, counts_at, no_counts, row_of, rows_of, said}
-use Rattle.bt_tables.specs.Standings.{cell_kept}
+use Rattle.bt_tables.specs.Floors.{is_fresh}
+use Rattle.bt_tables.specs.Rows.{AreKept, Keeps, amount_of, counts_at, is_fresh_by, no_counts, row_of, rows_of, said}
+use Rattle.bt_tables.specs.Standings.{cell_kept, shown_row, standing_of}
 use Rattle.bt_tables.specs.Tables.{CellState, PieceState, edit, empty_cell, fresh_piece, piece_row}
 use Rattle.bt_tables.proofs.Tabled.{edit_read, edit_same, edit_set}
 
@@ -174,3 +175,25 @@ cell_edited rows p k change now old lp lk read is =
     edit_same rows p (λ r. record r { blocks = set r.blocks k now }) (λ r. record r { blocks = edit r.blocks k change }) (fresh_piece 0) lp
     (ap (λ (cells : List CellState). record row { blocks = cells })
     (ap (λ (cell : CellState). set row.blocks k cell) is ∙ edit_read row.blocks k change old empty_cell lk read))
+
+-- ---- how a piece stands
+
+-- what a piece with these counts and cells amounts to
+pub amount_is : (counts : Counts) (cells : List CellState) (n : ℕ) → Keeps counts cells
+    → amount_of (record { had = counts.had; level = counts.level; held = counts.held; touched = counts.touched; blocks = length cells; shown_by = n })
+    ≡ standing_of (shown_row n (row_of counts cells))
+amount_is counts cells n keeps =
+    λ i. amount_of (record {
+      had = counts.had;
+      level = counts.level;
+      held = keeps.are.held_is i;
+      touched = keeps.are.touched_is i;
+      blocks = length cells;
+      shown_by = n;
+    })
+
+-- whether it is wanted and unbegun
+pub fresh_is : (counts : Counts) (cells : List CellState) (n : ℕ) → Keeps counts cells
+    → is_fresh_by (record { had = counts.had; level = counts.level; held = counts.held; touched = counts.touched; blocks = length cells; shown_by = n })
+    ≡ is_fresh (row_of counts cells)
+fresh_is counts cells n keeps = λ i. not (counts.had || (counts.level == 0)) && (keeps.are.touched_is i == 0)

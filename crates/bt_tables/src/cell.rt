@@ -25,7 +25,7 @@ impl Cell {
         ensures { cell_kept result ≡ record { sender = Some sender; askers = 0 } }
     {
         Cell {
-            word: HELD + sender as u16,
+            word: HELD | sender as u16,
         }
     }
 

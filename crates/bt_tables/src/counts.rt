@@ -6,6 +6,7 @@ ghost use Rattle.bt_tables.specs.Rows.{passed_to};
 ghost use Rattle.bt_tables.specs.Standings.{cell_kept, is_held, is_touched};
 
 use crate::cell::Cell;
+use crate::piece::Standing;
 use bt_history::USUAL_LEVEL;
 
 /// What is kept of a piece beside the cells of its blocks, in sixteen bytes: whether it is had, its level, how many of its blocks are held,
@@ -29,6 +30,28 @@ impl Counts {
         touched: 0,
         first: 0,
     };
+
+    /// How a piece stands that has so many blocks and is shown by so many peers.
+    #[inline(always)]
+    pub fn standing(self, blocks: u32, shown_by: u32) -> Standing
+        ensures { result ≡ record {
+          had = self.had;
+          level = self.level;
+          held = self.held;
+          touched = self.touched;
+          blocks = blocks;
+          shown_by = shown_by;
+        } }
+    {
+        Standing {
+            had: self.had,
+            level: self.level,
+            held: self.held,
+            touched: self.touched,
+            blocks,
+            shown_by,
+        }
+    }
 
     /// The block's cell was `old`, and is `new` from now on.
     #[inline(always)]

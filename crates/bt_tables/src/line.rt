@@ -86,11 +86,12 @@ impl Line {
     }
 
     /// Whether a block of the line begins there, and the peer isn't late with it.
+    #[inline(always)]
     pub fn expects(&self, piece: u32, begin: u32) -> bool
         ensures { result ≡ (list_any (λ b. (piece == b.piece) && (begin == b.begin)) self.now.asked
             && not (list_any (λ b. (piece == b.piece) && (begin == b.begin)) self.now.overdue)) }
     {
-        match place_in(self.blocks.as_slice(), piece, begin) {
+        match place_of_oldest(self.blocks.as_slice(), piece, begin) {
             Some(index) => !self.flags[index],
             None => false,
         }
@@ -139,7 +140,7 @@ impl Line {
         ensures some { IfSome result (λ b. filter (λ b. (piece == b.piece) && (begin == b.begin)) self.old.asked ≡ b ∷ []) }
         ensures none { IfNone result (filter (λ b. (piece == b.piece) && (begin == b.begin)) self.old.asked ≡ []) }
     {
-        match place_in(self.blocks.as_slice(), piece, begin) {
+        match place_of_oldest(self.blocks.as_slice(), piece, begin) {
             Some(index) => Some(self.remove(index)), // most often the first, as blocks come in the order of their requests
             None => None,
         }
@@ -253,4 +254,18 @@ fn place_in(line: &[Block], piece: u32, begin: u32) -> Option<usize>
         }
     }
     None
+}
+
+/// The same, where mostly it is the oldest request.
+#[inline(always)]
+fn place_of_oldest(line: &[Block], piece: u32, begin: u32) -> Option<usize>
+    ensures some { IfSome result (λ i. (i < length line.now)
+        × (list_any (λ b. (piece == b.piece) && (begin == b.begin)) (take i line.now) ≡ false)
+        × ((d : Block) → ((piece == (slice_index_or line.now i d).piece) && (begin == (slice_index_or line.now i d).begin)) ≡ true)) }
+    ensures none { IfNone result (list_any (λ b. (piece == b.piece) && (begin == b.begin)) line.now ≡ false) }
+{
+    match line.first() {
+        Some(oldest) if piece == oldest.piece && begin == oldest.begin => Some(0),
+        _ => place_in(line, piece, begin),
+    }
 }

@@ -178,6 +178,7 @@ impl Peer {
     }
 
     /// Whether the block that begins there is asked of the peer, and the peer isn't late with it.
+    #[inline(always)]
     pub fn expects(&self, piece: u32, begin: u32) -> bool
         ensures { result ≡ (list_any (λ b. (piece == b.piece) && (begin == b.begin)) self.now.asked
             && not (list_any (λ b. (piece == b.piece) && (begin == b.begin)) self.now.overdue)) }

@@ -195,6 +195,7 @@ impl Peers {
     }
 
     /// Whether a peer is late with the block that begins there.
+    #[inline(always)]
     pub fn is_late_at_some(&self, piece: u32, begin: u32) -> bool
         ensures { result ≡ any_below (length self.now) (λ q. is_late_at piece begin (peer_row self.now q)) }
     {

@@ -65,23 +65,13 @@ impl Standing {
         ensures is { result ≡ (amount_of self).group }
         ensures few { result < GROUPS }
     {
-        group_number(self.level, self.stage())
-    }
-
-    /// The stage of the piece.
-    #[inline(always)]
-    fn stage(self) -> Stage
-        ensures { result ≡ stage_by self.had self.level self.touched self.blocks self.shown_by }
-    {
-        if self.is_resting() {
-            Stage::Resting
-        } else if self.touched == 0 {
-            Stage::Unbegun(self.shown_by)
-        } else if self.is_asked_out() {
-            Stage::AskedOut
-        } else {
-            Stage::Open
-        }
+        group_by(
+            self.had,
+            self.level,
+            self.touched,
+            self.blocks,
+            self.shown_by,
+        )
     }
 
     /// Whether nothing is left to get of the piece: it is had, or not wanted.
@@ -228,6 +218,24 @@ pub fn group_number(level: u8, stage: Stage) -> u32
     first_group(level) + stage.place()
 }
 
+/// The group of a piece that stands so.
+#[inline(never)] // few changes come here, and numbers alone are passed
+fn group_by(had: bool, level: u8, touched: u32, blocks: u32, shown_by: u32) -> u32
+    ensures is { result ≡ group_number level (stage_by had level touched blocks shown_by) }
+    ensures few { result < GROUPS }
+{
+    let stage = if had || level == 0 {
+        Stage::Resting
+    } else if touched == 0 {
+        Stage::Unbegun(shown_by)
+    } else if touched == blocks {
+        Stage::AskedOut
+    } else {
+        Stage::Open
+    };
+    group_number(level, stage)
+}
+
 /// Whether the pieces of the group are open.
 #[inline(always)]
 pub fn is_open(group: u32) -> bool
@@ -283,15 +291,9 @@ impl<'a> Piece<'a> {
     pub fn standing(&self, shown_by: u32) -> Standing
         ensures amount { amount_of result ≡ standing_of (shown_row shown_by self.now) }
         ensures fresh { is_fresh_by result ≡ is_fresh self.now }
+        ensures blocks { result.blocks ≡ length self.now.blocks }
     {
-        Standing {
-            had: self.counts.had,
-            level: self.counts.level,
-            held: self.counts.held,
-            touched: self.counts.touched,
-            blocks: self.len(),
-            shown_by,
-        }
+        self.counts.standing(self.len(), shown_by)
     }
 
     /// Whether nothing is left to get of the piece.

@@ -3,14 +3,15 @@
 ghost use Rattle.std.specs.Prelude.{◌≡◌, ◌<◌, ◌+◌, ◌^◌, false, true, length, slice_index_or, slice_set, IfOk};
 ghost use Rattle.bt_meta.specs.Layout.{block_count, piece_count};
 ghost use Rattle.bt_history.specs.Counting.{table};
-ghost use Rattle.bt_tables.specs.Floors.{NoneFresh};
-ghost use Rattle.bt_tables.specs.Standings.{is_held, cell_kept};
+ghost use Rattle.bt_tables.specs.Floors.{NoneFresh, is_fresh};
+ghost use Rattle.bt_tables.specs.Rows.{amount_of, is_fresh_by};
+ghost use Rattle.bt_tables.specs.Standings.{is_held, cell_kept, shown_row, standing_of};
 ghost use Rattle.bt_tables.specs.Tables.{HasRoomOf, changed_row, edit, empty_cell, failed_row, fresh_piece, had_row, one_less, one_more, piece_row};
 ghost use Rattle.bt_tables.specs.Tables.{discarded_row, level_row, lost_row, stored_row};
 
 use crate::cell::{Cell, HELD};
 use crate::counts::Counts;
-use crate::piece::{Change, Piece};
+use crate::piece::{Change, Piece, Standing};
 use bt_meta::Torrent;
 use std::alloc::{AllocError, Global};
 use std::marker::Model;
@@ -78,6 +79,17 @@ impl Rows {
         let start = piece as usize * self.width as usize;
         let end = self.cells.len().min(start + self.width as usize);
         Piece::new(&self.counts[piece as usize], &self.cells[start..end])
+    }
+
+    /// How the piece stands, which has so many blocks and so many peers show.
+    #[inline(always)]
+    pub fn standing(&self, piece: u32, blocks: u32, shown_by: u32) -> Standing
+        requires piece { piece < length self.now }
+        requires blocks { blocks ≡ length (piece_row self.now piece).blocks }
+        ensures amount { amount_of result ≡ standing_of (shown_row shown_by (piece_row self.now piece)) }
+        ensures fresh { is_fresh_by result ≡ is_fresh (piece_row self.now piece) }
+    {
+        self.counts[piece as usize].standing(blocks, shown_by)
     }
 
     /// The first piece from this one on that is wanted and unbegun, or the count of the pieces.
@@ -174,7 +186,7 @@ impl Rows {
     }
 
     /// One peer less is asked for the block, where the piece has so many.
-    #[inline(always)]
+    #[inline(never)] // seldom
     fn lower(&mut self, piece: u32, index: u32)
         requires { piece < length self.old }
         ensures { self.new ≡ edit self.old piece (λ row. record row { blocks = edit row.blocks index one_less }) }

@@ -176,7 +176,7 @@ impl Shelf {
     }
 
     /// The same, where the piece may be in another group then.
-    #[inline(never)] // few changes come here
+    #[inline(always)]
     fn regroup(&mut self, piece: u32, before: Standing, after: Standing)
         requires piece { piece < length self.old.groups }
         requires before { (amount_of before).group ≡ at self.old.groups piece }
@@ -203,7 +203,7 @@ impl Shelf {
     }
 
     /// Moves the piece from the one group to the other.
-    #[inline(always)]
+    #[inline(never)] // few changes come here, and how a piece stands then needs no memory
     fn put_in(&mut self, piece: u32, before: u32, after: u32)
         requires piece { piece < length self.old.groups }
         requires before { before ≡ at self.old.groups piece }

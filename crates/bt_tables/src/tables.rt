@@ -164,6 +164,7 @@ impl Tables {
     }
 
     /// Whether a peer is late with the block that begins there.
+    #[inline(always)]
     pub fn is_late_at_some(&self, piece: u32, begin: u32) -> bool
         ensures { result ≡ any_below (length self.now.peers) (λ q. is_late_at piece begin (peer_row self.now.peers q)) }
     {
@@ -513,6 +514,7 @@ impl Tables {
     }
 
     /// Moves the front of the pieces when some are asked in order.
+    #[inline(always)]
     fn advance(&mut self)
         ensures { self.new ≡ self.old }
     {

@@ -6,6 +6,7 @@ use Rattle.bt_tables.proofs.Apart.{kept_piece, lent_row, own_row, same_room, sta
 use Rattle.bt_tables.specs.Floors.{is_fresh}
 use Rattle.bt_tables.specs.Rows.{amount_of}
 use Rattle.bt_tables.proofs.Fronts.{front_kept}
+use Rattle.bt_tables.proofs.Shelves.{same_length}
 use Rattle.bt_tables.proofs.Tabled.{length_edit}
 use Rattle.bt_tables.proofs.pieces.Pieces.apply.Goals as goal
 
@@ -40,12 +41,24 @@ apply-requires-clause-fits c =
     subst (HasRoomOf c.args.change) (sym (lent_row o.rows o.shown_by.items p (piece_row o.rows p) kept.len c.self.invariant.2 kept.within refl))
     (same_room c.args.change at_piece.availability at_piece fits)
 
-pub row-requires-2 : goal.row-requires-2
-row-requires-2 c =
+pub standing-after-requires-clause-piece : goal.standing-after-requires-clause-piece
+standing-after-requires-clause-piece c =
     let o = c.self.inside in
     let p = c.args.piece in
     let kept = kept_piece o.shelf o.rows o.shown_by.items _ p c.self.invariant.0 c.self.invariant.1 c.self.view_is c.requires.piece in
     omega (arith, kept.within, ap length c.apply.ensures, length_edit o.rows p (changed_row c.args.change))
+
+pub standing-after-requires-clause-blocks : goal.standing-after-requires-clause-blocks
+standing-after-requires-clause-blocks c =
+    let o = c.self.inside in
+    let p = c.args.piece in
+    let kept = kept_piece o.shelf o.rows o.shown_by.items _ p c.self.invariant.0 c.self.invariant.1 c.self.view_is c.requires.piece in
+    let row = piece_row o.rows p in
+    c.standing-before.ensures.blocks
+    ∙ ap (λ (r : PieceState). length r.blocks) c.row.ensures
+    ∙ sym (ap (λ (l : List PieceState). length (piece_row l p).blocks) c.apply.ensures
+    ∙ ap (λ (r : PieceState). length r.blocks) (edited_row o.rows p c.args.change kept.within)
+    ∙ same_length c.args.change row)
 
 -- what is read of the piece
 kept : (c : goal.After-put-arg-1) → IsKept c.self.inside.shelf c.self.inside.rows c.self.inside.shown_by.items c.args.piece
@@ -59,7 +72,7 @@ stands : (c : goal.After-put-arg-1) → IsChange c.self.inside.rows c.self.insid
 stands c =
     let within = (kept c).within in
     is_change c.self.inside.rows _ c.self.inside.shown_by.items c.args.piece c.args.change _ _ _ _ _ _ within (omega (arith, (kept c).len, within))
-    c.from-shown_by.ensures c.index.ensures c.row.ensures c.apply.ensures c.row-2.ensures c.standing-before.ensures.amount c.standing-after.ensures.amount
+    c.from-shown_by.ensures c.index.ensures c.row.ensures c.apply.ensures refl c.standing-before.ensures.amount c.standing-after.ensures.amount
 
 pub put-requires-clause-piece : goal.put-requires-clause-piece
 put-requires-clause-piece c = in_groups c.self.inside.shelf c.self.inside.rows c.self.inside.shown_by.items c.args.piece (kept c)
@@ -88,7 +101,7 @@ stands_at_end : (c : goal.After-put) → IsChange c.self.inside.rows c.self.insi
 stands_at_end c =
     let within = (kept_at_end c).within in
     is_change c.self.inside.rows _ c.self.inside.shown_by.items c.args.piece c.args.change _ _ _ _ _ _ within
-    (omega (arith, (kept_at_end c).len, within)) c.from-shown_by.ensures c.index.ensures c.row.ensures c.apply.ensures c.row-2.ensures
+    (omega (arith, (kept_at_end c).len, within)) c.from-shown_by.ensures c.index.ensures c.row.ensures c.apply.ensures refl
     c.standing-before.ensures.amount c.standing-after.ensures.amount
 
 -- whether the piece is fresh then
@@ -96,8 +109,7 @@ fresh_after : (c : goal.After-put) → c.is_fresh.result ≡ is_fresh (changed_r
 fresh_after c =
     let rows = c.self.inside.rows in
     let p = c.args.piece in
-    c.is_fresh.ensures ∙ c.standing-after.ensures.fresh ∙ ap is_fresh (c.row-2.ensures
-    ∙ (ap (λ (l : List PieceState). piece_row l p) c.apply.ensures ∙ edited_row rows p c.args.change (kept_at_end c).within))
+    c.is_fresh.ensures ∙ c.standing-after.ensures.fresh ∙ ap is_fresh (ap (λ (l : List PieceState). piece_row l p) c.apply.ensures ∙ edited_row rows p c.args.change (kept_at_end c).within)
 
 pub invariant_of-self : goal.invariant_of-self
 invariant_of-self c =
