@@ -1,4 +1,4 @@
-use Rattle.std.proofs.Common.{◌≡◌, ◌+◌, ◌≤◌, ◌∙◌, ℕ, List, [], ◌∷◌, ap, arith, drop, refl, suc, sym, zero}
+use Rattle.std.proofs.Common.{◌≡◌, ◌+◌, ◌∙◌, ℕ, List, [], ◌∷◌, ap, arith, drop, refl, suc, zero}
 use Rattle.std.specs.List.{remove}
 use Rattle.bt_tables.proofs.queue.Queue.remove.Goals as goal
 

@@ -1,9 +1,7 @@
-use Rattle.std.proofs.Common.{◌≡◌, ◌∙◌, List, ap, arith, length, subst, sym}
-use Rattle.bt_tables.specs.Floors.{is_fresh}
-use Rattle.bt_tables.specs.Rows.{amount_of, is_fresh_by, row_of}
-use Rattle.bt_tables.specs.Standings.{shown_row, standing_of}
+use Rattle.std.proofs.Common.{◌≡◌, ◌∙◌, List, ap, arith, length, sym}
+use Rattle.bt_tables.specs.Rows.{row_of}
 use Rattle.bt_tables.specs.Tables.{PieceState, piece_row}
-use Rattle.bt_tables.proofs.Rowed.{IsRow, amount_is, cells_at, fresh_is, is_row, rows_length}
+use Rattle.bt_tables.proofs.Rowed.{amount_is, cells_at, fresh_is, is_row, rows_length}
 use Rattle.bt_tables.proofs.rows.Rows.standing.Goals as goal
 
 pub index-requires : goal.index-requires
