@@ -164,7 +164,8 @@ class Ranges:
                     raise
         self.close()
         kind = http.client.HTTPSConnection if address.scheme.lower() == "https" else http.client.HTTPConnection
-        connection = kind(address.hostname or "", address.port, timeout=TIMEOUT, source_address=(self.source, 0) if self.source else None)
+        source = (self.source, 0) if self.source else None
+        connection: http.client.HTTPConnection = kind(address.hostname or "", address.port, timeout=TIMEOUT, source_address=source)
         self._connection, self._host = connection, address[:2]
         _ask(connection, address, part)
         return connection.getresponse()
