@@ -4,6 +4,7 @@ from __future__ import annotations
 
 import contextlib
 import io
+import os
 import subprocess
 import sys
 import unittest
@@ -69,8 +70,9 @@ class Statuses(Downloading):
     def test_full_output(self) -> None:
         """Python's own status, where what was printed can't be written."""
         command = [sys.executable, "-B", str(Path(CLIENTS, "fetch.py")), "--list", str(self.torrent_path)]
+        buffered = {name: value for name, value in os.environ.items() if name != "PYTHONUNBUFFERED"}
         with open("/dev/full", "wb") as full:
-            ended = subprocess.run(command, stdout=full, stderr=subprocess.PIPE, text=True, check=False)
+            ended = subprocess.run(command, stdout=full, stderr=subprocess.PIPE, text=True, check=False, env=buffered)
         self.assertEqual(ended.returncode, 120)
         self.assertIn("No space left", ended.stderr)
 
