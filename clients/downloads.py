@@ -38,8 +38,8 @@ from typing import IO
 from fetch.dht.node import Node
 from fetch.tests.webservers import WebServer
 from others import (
-    LOCAL, NETWORK, READY, START, Client, Content, Place, aria2, enter_network, fetch, free_port, libtorrent, libtorrent_peer, opentracker,
-    transmission, transmission_by_link,
+    LOCAL, NETWORK, READY, START, Client, Content, Place, aria2, enter_network, fetch, free_port, installed, libtorrent, libtorrent_peer,
+    opentracker, transmission, transmission_by_link,
 )  # fmt: skip
 
 LONGEST = 600.0  # seconds of one download, since 4 GiB take long on a busy machine
@@ -496,6 +496,7 @@ def main() -> int:
     enter_network()
     for number in (signal.SIGINT, signal.SIGTERM):
         signal.signal(number, signal.default_int_handler)  # so that what was started is ended
+    installed()  # before anything is measured
     if names[0] == "--picture":
         picture(names[1])
         return 0

@@ -6,19 +6,23 @@ no two connections with one address.
 
 from __future__ import annotations
 
+import atexit
 import contextlib
 import hashlib
 import json
 import os
+import platform
 import random
 import shutil
 import signal
 import socket
 import subprocess
 import sys
+import tempfile
 import time
 from collections.abc import Callable
 from dataclasses import dataclass, field
+from functools import cache
 from pathlib import Path
 
 from bencode import Value, bencode
@@ -30,6 +34,7 @@ READY = 300.0  # seconds until a client answers, since a seeder may hash 4 GiB b
 CHUNK = 1 << 20
 NETWORK = "10.77.0."
 LOCAL = "127.0.0.1"
+LIBRARY = "libpiecepick.so"
 INSIDE = "PIECEPICK_NETWORK"  # in the environment: the network is there
 PYTHON = "/usr/bin/python3"  # Debian's, which has libtorrent. Ours runs by it too: another one's own packages may make its start the longer one
 SHORTEST = 5  # seconds between two announces of a client, for those that wait for the tracker to name others
@@ -399,13 +404,28 @@ def opentracker(place: Place) -> int:
     raise RuntimeError("opentracker doesn't answer")
 
 
+@cache
+def installed() -> Path:
+    """The downloader as an installation has it: its modules are compiled already, as the other clients are, and nothing is written beside them."""
+    folder = Path(tempfile.mkdtemp(prefix="piecepick-"))
+    atexit.register(shutil.rmtree, folder, ignore_errors=True)
+    for module in ("fetch.py", "bencode.py"):
+        shutil.copy(HERE / module, folder)
+    for package in ("fetch", "python/piecepick"):
+        shutil.copytree(HERE / package, folder / package, ignore=shutil.ignore_patterns("tests", "__pycache__"))
+    built, released = HERE / "out" / LIBRARY, HERE.parent / "release" / f"{platform.machine()}-linux" / "lib" / LIBRARY
+    shutil.copy(built if built.exists() else released, folder / "python" / "piecepick")
+    subprocess.run([PYTHON, "-m", "compileall", "-q", str(folder)], check=True)
+    return folder / "fetch.py"
+
+
 def fetch(
     place: Place, seeds: bool, kilobytes: int = 0, words: tuple[str, ...] = ("--seed-minutes", "10"), peers: tuple[str, ...] = (),
     torrent: str = "",
 ) -> Client:
     """The downloader of this folder. It has no DHT, unless its words say so."""
     (host, port), room = place.address(), place.room("fetch", seeds)
-    command = [PYTHON, str(HERE / "fetch.py"), "--quiet", "--json", "--no-dht", "--bind", host, "--port", str(port), *words]
+    command = [PYTHON, str(installed()), "--quiet", "--json", "--no-dht", "--bind", host, "--port", str(port), *words]
     command += ["--up", str(kilobytes)] if kilobytes else []
     command += [torrent or str(place.torrent), str(room / "content"), *peers]
     return place.start("fetch", command, host, port, room / "content", subprocess.PIPE)

@@ -1,8 +1,6 @@
 """python3 -m fetch, in the folder above."""
 
-import sys
-
-from .main import main
+from .main import leave, main
 
 if __name__ == "__main__":
-    sys.exit(main())
+    leave(main())

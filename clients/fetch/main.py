@@ -5,6 +5,7 @@ from __future__ import annotations
 import os
 import sys
 from contextlib import closing, suppress
+from typing import NoReturn
 
 from . import command_line, listing
 from .faults import Ended, fault_of, named
@@ -78,3 +79,13 @@ def run(options: Options) -> Ended:
 def main() -> int:
     """The program's status."""
     return run(command_line.read(sys.argv[1:]))
+
+
+def leave(status: int) -> NoReturn:
+    """Ends the program once all is written. Else Python would take down its modules one by one, which takes longer than the system does."""
+    try:
+        for stream in filter(None, (sys.stdout, sys.stderr)):
+            stream.flush()
+    except (OSError, ValueError):
+        sys.exit(status)  # Python says what is wrong there
+    os._exit(status)

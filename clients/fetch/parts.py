@@ -5,7 +5,7 @@ from __future__ import annotations
 import errno
 import secrets
 import socket
-from typing import cast
+from typing import TYPE_CHECKING, cast
 
 from piecepick import Keeps, Picker, PiecepickError, Status
 
@@ -24,12 +24,14 @@ from .meter import Metered
 from .options import Options
 from .peer import FIRST_DEPTH, MOST_DEPTH
 from .place import STATE_SUFFIX, root_of
-from .recorder import Recorder
 from .session import Session
 from .storage import Storage
 from .swarm import Limits, Swarm
 from .tracker import Announce, Event
 from .uploads import Uploads
+
+if TYPE_CHECKING:
+    from .recorder import Recorder
 
 PORTS = range(6881, 6890)
 USUAL_LEVEL = 4
@@ -133,7 +135,7 @@ class Parts:
         self.checker = Checker(self.storage, lambda: self.swarm.wake())
         self.content = Content(self.picker, self.layout, self.storage, self.checker, self.root + STATE_SUFFIX)
         self.uploads = Uploads(self.content, self.bounds.up)
-        self.recorder = Recorder(self.picker, self.layout) if options.picture else None
+        self.recorder = self._new_recorder() if options.picture else None
         self.port = int(listener.getsockname()[1]) if listener else 0
         self.extensions = Extensions(info_of(self.metainfo), self.port, options.exchanges_peers and not self.is_private, self._hear_of)
         self.session = Session(self.content, self.uploads, self.recorder, self.extensions)
@@ -142,6 +144,12 @@ class Parts:
         tiers = trackers_of(self.metainfo) if options.asks_trackers else []
         self.announcer = Announcer(tiers, self._announce, self.swarm.wake, options.bind)
         self._key = secrets.randbits(32)
+
+    def _new_recorder(self) -> Recorder:
+        """Keeps what the picture shows."""
+        from .recorder import Recorder
+
+        return Recorder(self.picker, self.layout)
 
     def _hear_of(self, peers: list[Address], teller: Address) -> None:
         """A peer tells of others."""

@@ -27,6 +27,7 @@ WIDTHS = ((5, AHEAD), (6, NEAR), (7, NEAREST))
 LEAST_AHEAD = 2  # pieces at the highest level, where pieces are long
 URGENT = 5  # the least level of what comes in order, and from quick peers alone
 LOOK = 1.0  # seconds between two looks at which peers are quick
+SOON = 0.1  # seconds between two looks at what readers wait for
 CHUNK = 1 << 18  # bytes
 WAIT = 0.5  # seconds between two looks at whether the program ends
 RANGE = re.compile(r"bytes=(\d*)-(\d*)")
@@ -68,6 +69,12 @@ class Gate:
                 self._came.wait(WAIT)
         return not self.is_closed
 
+    def awaited(self) -> set[int]:
+        """The pieces that readers need next, and that aren't had: two for each of them."""
+        with self._came:
+            near = [pieces[: max(LEAST_AHEAD, NEAREST // self.content.layout.piece_length)] for pieces in self._places.values()]
+        return {piece for pieces in near for piece in itertools.islice(itertools.filterfalse(self.content.has, pieces), LEAST_AHEAD)}
+
     def leave(self, reader: int) -> None:
         """The reader has what it wanted, or is gone."""
         with self._came:
@@ -101,7 +108,7 @@ class Urgent:
         self.raised: dict[int, int] = {}
         self.deadlines = Deadlines()
         self._told = bits_of((piece for piece, level in enumerate(levels) if level >= URGENT), len(session.content.had))
-        self._looked = 0.0
+        self._looked = self._hurried = 0.0
 
     def tick(self) -> None:
         """Tells the picker what is another than before."""
@@ -115,6 +122,9 @@ class Urgent:
         if comes_or_goes or (ahead and self.session.now - self._looked >= LOOK):
             self._looked = self.session.now
             self._set_reaches()
+        if ahead and self.session.now - self._hurried >= SOON:
+            self._hurried = self.session.now
+            self.session.hurry(self.gate.awaited())
 
     def set_own_levels(self, levels: bytes) -> None:
         """The pieces have other levels of their own, which the picker was told; those before readers are raised again."""

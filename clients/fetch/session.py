@@ -23,6 +23,8 @@ SILENCE = 15.0  # seconds with no block, after which a silent peer's oldest requ
 SLOWEST = 60.0  # seconds after which a request is late though other blocks come, and after as many more it is taken back
 REST = 10.0  # seconds in which nothing is asked of a peer that is late; if no block comes in them, its late requests are taken back
 REJECT_REST = 1.0  # the same of a peer that rejected a request
+HURRY = 0.2  # seconds after which a request is late where a reader waits for the block
+FAR_QUICKER = 3.0  # times a peer's rate that another one has, which may bring such a block sooner
 MOST_TIMEOUTS = 6  # rests one after the other, until a peer is let go
 
 
@@ -393,6 +395,21 @@ class Session:
             self.suspects.tell_off(peer)
             self.set_alone(peer, False)
             self._rest(peer)
+
+    def hurry(self, pieces: set[int]) -> None:
+        """Readers need these pieces next. What a peer was asked for some time ago is asked of others too, where one of them is far quicker."""
+        quickest = max((peer.down.per_second(self.now) for peer in self.peers.values() if not peer.chokes_us), default=0.0)
+        is_late = False
+        for peer in self.peers.values():
+            if peer.down.per_second(self.now) * FAR_QUICKER >= quickest:
+                continue
+            for block, since in peer.asked.items():
+                if block[0] in pieces and block not in peer.told_late and self.now - since > HURRY:
+                    is_late = True
+                    peer.told_late[block] = self.now
+                    self.picker.late(peer.worker, *block)
+        if is_late:
+            self.ask_idle()
 
     def _rest(self, peer: Peer) -> None:
         """Nothing is asked of the peer for a while, unless a block comes from it."""

@@ -11,23 +11,22 @@ from .addresses import Origin, looked_up
 from .choosing import Chooser
 from .ending import Ending
 from .finding import Finding
-from .keys import Keyboard
 from .layout import printable
 from .levels import Levels
 from .limits import Bounds
 from .options import Options
 from .parts import Parts, why_not
-from .picture import draw
 from .place import PART_SUFFIX
 from .progress import Progress, State, line, size
 from .reach import Reach
-from .recorder import Recorder
 from .source import Source
-from .watch import Watch
 
-if TYPE_CHECKING:
+if TYPE_CHECKING:  # who uses none of them starts sooner
+    from .keys import Keyboard
+    from .recorder import Recorder
     from .seeking import Met
     from .serving import Server
+    from .watch import Watch
 
 SAVE_SECONDS = 2.0
 STATE_SECONDS = 0.25  # between two looks at how far it is
@@ -44,13 +43,15 @@ class Transfer:
         self.options, self.parts = options, Parts(options, metainfo, bounds)
         self.finding = Finding(self.parts, reach)
         self.progress = Progress(options.quiet or options.watches)
-        self.watch = Watch() if options.watches else None
+        self.watch: Watch | None = None
+        self.keyboard: Keyboard | None = None
+        if options.watches:
+            self._open_screen()
         if options.is_verbose and not options.watches:
             self.parts.swarm.partings.tell = self.progress.say
         self.server: Server | None = None
         self.levels = Levels(self.parts)
         self.chooser = Chooser(self.parts.layout.files, self.levels.choose)
-        self.keyboard = Keyboard() if options.watches else None
         self.began = time.monotonic()
         self.finished: float | None = None
         self.restored_count = 0
@@ -59,6 +60,13 @@ class Transfer:
         self._has_told = False  # that the state can't be written
         self._newest = self.began  # when a block came last
         self._met: list[Met] = []
+
+    def _open_screen(self) -> None:
+        """The drawing, and the keys that are hit meanwhile."""
+        from .keys import Keyboard
+        from .watch import Watch
+
+        self.watch, self.keyboard = Watch(), Keyboard()
 
     @classmethod
     def of(cls, source: Source, options: Options, reach: Reach, bounds: Bounds | None = None) -> Transfer:
@@ -224,6 +232,8 @@ class Transfer:
 
     def _draw(self, recorder: Recorder, path: str) -> None:
         """Writes the picture."""
+        from .picture import draw
+
         name = os.path.basename(self.parts.root) or "a download"
         title = f"{name}: {size(self.parts.layout.total)} in {recorder.trace.end:.1f} s"
         try:

@@ -7,14 +7,14 @@ import hashlib
 import select
 import socket
 import threading
-from collections import OrderedDict
+from collections import OrderedDict, deque
 from collections.abc import Callable
 
 from .layout import BLOCK
 from .ranges import RangeFault, Ranges
-from .wire import HANDSHAKE_LENGTH, Handshake, Inbound, Message, WireFault, numbers_of, spell, spell_block
+from .wire import HANDSHAKE_LENGTH, Handshake, Inbound, Message, WireFault, numbers_of, spell, spell_head
 
-LONGEST_RUN = 1 << 23  # bytes that one request of a range asks for
+LONGEST_RUN = 1 << 23  # bytes that one range has
 READ = 1 << 16
 
 
@@ -32,6 +32,9 @@ class WebSeed:
         self._poll = select.poll()
         self._poll.register(connection, select.POLLIN)
         self.wanted: OrderedDict[int, int] = OrderedDict()  # of each begin in the content the length
+        self.coming: deque[tuple[int, int]] = deque()  # the same of those that the server was asked for
+        self._last_run = 0  # bytes of the last range
+        self._rest = b""  # the front of a block
 
     def start(self) -> None:
         """Answers from now on, until the other end is closed or the server doesn't do what it should."""
@@ -42,6 +45,7 @@ class WebSeed:
             with contextlib.suppress(OSError, WireFault):  # the other end is gone
                 self._greet()
                 while self._listen(self.connection):
+                    self._want()
                     self._answer()
         except RangeFault as fault:
             self.on_fault(str(fault))
@@ -61,8 +65,8 @@ class WebSeed:
         self.connection.sendall(hello.spell() + spell(Message.HAVE_ALL) + spell(Message.UNCHOKE))
 
     def _listen(self, connection: socket.socket) -> bool:
-        """Takes what came, and waits for something where nothing is wanted; whether the other end is there."""
-        while not self.wanted or self._poll.poll(0):
+        """Takes what came, and waits for something where nothing is to come; whether the other end is there."""
+        while not (self.wanted or self.coming) or self._poll.poll(0):
             data = connection.recv(READ)
             if not data:
                 return False
@@ -85,19 +89,26 @@ class WebSeed:
             end += length
         return run
 
+    def _want(self) -> None:
+        """One more range, once half of the last one is there: requests of others have come meanwhile, so that ranges stay long."""
+        if self.wanted and 2 * self.ranges.left <= self._last_run:
+            run = self._next_run()
+            self._last_run = sum(length for _, length in run)
+            self.ranges.want(run[0][0], self._last_run)
+            self.coming.extend(run)
+
     def _answer(self) -> None:
-        """One range, as the blocks that were asked for."""
-        run = self._next_run()
-        parts = self.ranges.read(run[0][0], sum(length for _, length in run))
-        rest = bytearray()
-        for begin, length in run:
-            while len(rest) < length:
-                rest += next(parts)
-            piece, inside = divmod(begin, self.ranges.layout.piece_length)
-            self.connection.sendall(spell_block(piece, inside, bytes(rest[:length])))
-            del rest[:length]
-        for _ in parts:  # to its end, so that the connection may stay
-            pass
+        """Passes on what came next, as the blocks that were asked for."""
+        data = self._rest + self.ranges.read()
+        view, at = memoryview(data), 0
+        parts: list[bytes | memoryview] = []
+        while self.coming and len(data) - at >= self.coming[0][1]:
+            begin, length = self.coming.popleft()
+            parts += (spell_head(*divmod(begin, self.ranges.layout.piece_length), length), view[at : at + length])
+            at += length
+        self._rest = data[at:]
+        if parts:
+            self.connection.sendall(b"".join(parts))
 
 
 assert LONGEST_RUN % BLOCK == 0

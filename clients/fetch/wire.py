@@ -60,9 +60,14 @@ def spell_bitfield(flags: bytes) -> bytes:
     return _HEAD.pack(1 + len(flags), Message.BITFIELD) + flags
 
 
+def spell_head(piece: int, begin: int, length: int) -> bytes:
+    """What stands in front of a block of so many bytes in a `piece` message."""
+    return _HEAD.pack(9 + length, Message.PIECE) + _NUMBERS[2].pack(piece, begin)
+
+
 def spell_block(piece: int, begin: int, block: bytes) -> bytes:
     """A `piece` message."""
-    return _HEAD.pack(9 + len(block), Message.PIECE) + _NUMBERS[2].pack(piece, begin) + block
+    return spell_head(piece, begin, len(block)) + block
 
 
 def spell_extended(number: int, payload: bytes) -> bytes:

@@ -56,6 +56,13 @@ class Checks(Downloading):
         self.assertEqual(lost, list(range(begin // PIECE, (end - 1) // PIECE + 1)))
         self.assertTrue(all(found[piece][1] == b"" for piece in lost))
 
+    def test_fault(self) -> None:
+        """What goes wrong in a thread is raised where the digests are awaited, and nobody waits for ever."""
+        checker = self.checker()
+        with mock.patch.object(checking, "side_by_side", side_effect=MemoryError), self.assertRaises(MemoryError):
+            self.digests(checker, True)
+        self.assertEqual(self.digests(checker, False), list(enumerate(DIGESTS)))
+
     def test_one_result(self) -> None:
         messages = [CONTENT[at : at + 1000] for at in range(4)]
         self.assertEqual(side_by_side(messages), one_by_one(messages))

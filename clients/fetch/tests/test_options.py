@@ -4,8 +4,13 @@ from __future__ import annotations
 
 import contextlib
 import io
+import os
+import subprocess
+import sys
 import unittest
+from pathlib import Path
 
+from fetch import CLIENTS
 from fetch.command_line import read
 
 from .support import Downloading
@@ -61,6 +66,15 @@ class Statuses(Downloading):
         (self.folder / "out").write_bytes(b"a file in the way")
         self.fetch(status=4)
         self.assertIn("/out: a file is there, where a folder has to be", self.errors)
+
+    def test_full_output(self) -> None:
+        """Python's own status, where what was printed can't be written."""
+        command = [sys.executable, "-B", str(Path(CLIENTS, "fetch.py")), "--list", str(self.torrent_path)]
+        buffered = {name: value for name, value in os.environ.items() if name != "PYTHONUNBUFFERED"}
+        with open("/dev/full", "wb") as full:
+            ended = subprocess.run(command, stdout=full, stderr=subprocess.PIPE, text=True, check=False, env=buffered)
+        self.assertEqual(ended.returncode, 120)
+        self.assertIn("No space left", ended.stderr)
 
     def test_port_in_use(self) -> None:
         seeder = self.seeder()

@@ -27,6 +27,16 @@ def with_seeds(torrent: bytes, urls: list[str]) -> bytes:
     return bencode(whole)
 
 
+def read(ranges: Ranges, *wanted: int) -> bytes:
+    """These parts of the content, each as its begin and its length, and wanted at once."""
+    for begin, length in zip(wanted[::2], wanted[1::2], strict=True):
+        ranges.want(begin, length)
+    data = b""
+    while ranges.left:
+        data += ranges.read()
+    return data
+
+
 class Addresses(unittest.TestCase):
     """Where files are, as BEP 19 has it."""
 
@@ -68,7 +78,7 @@ class Parts(unittest.TestCase):
     def test_over_files(self) -> None:
         """A range over many files is a request for each of them that has bytes, by one connection."""
         server = self.server()
-        self.assertEqual(b"".join(self.ranges(server.url).read(50, 2 * PIECE)), CONTENT[50 : 50 + 2 * PIECE])
+        self.assertEqual(read(self.ranges(server.url), 50, 2 * PIECE), CONTENT[50 : 50 + 2 * PIECE])
         self.assertEqual(
             server.requests,
             [
@@ -77,12 +87,23 @@ class Parts(unittest.TestCase):
             ],
         )  # fmt: skip
 
+    def test_ahead(self) -> None:
+        """What is wanted next is asked for while the part before it comes, and both come by one connection. Some servers end it over that."""
+        for lies, connections in (("waiting", 1), ("hasty", 2)):
+            server = self.server(lies)
+            begin, length = 100 + PIECE + 5000, PIECE
+            with self.subTest(lies):
+                data = read(self.ranges(server.url), begin, length, begin + 2 * length, length, begin, 9)
+                self.assertEqual(data, CONTENT[begin : begin + length] + CONTENT[begin + 2 * length :][:length] + CONTENT[begin : begin + 9])
+                self.assertEqual(server.connections, connections)
+                self.assertIs(server.was_ahead, True)
+
     def test_moved(self) -> None:
         """A server that leads elsewhere is followed, and not asked for the same file there again."""
         server = self.server()
         ranges = self.ranges(server.url + "moved/")
         for begin in (0, 20):
-            self.assertEqual(b"".join(ranges.read(begin, 20)), CONTENT[begin : begin + 20])
+            self.assertEqual(read(ranges, begin, 20), CONTENT[begin : begin + 20])
         self.assertEqual([path for path, _ in server.requests], ["/moved/folder/a", "/folder/a", "/folder/a"])
 
     def test_lies(self) -> None:
@@ -90,14 +111,14 @@ class Parts(unittest.TestCase):
         for lies in LIES:
             server = self.server(lies)
             with self.subTest(lies), self.assertRaisesRegex(RangeFault, "the web server"):
-                list(self.ranges(server.url).read(100 + PIECE + 5000 + 7, 3 * PIECE))
+                read(self.ranges(server.url), 100 + PIECE + 5000 + 7, 3 * PIECE)
             self.assertLess(len(server.requests), 10)
         with self.assertRaisesRegex(RangeFault, "status 404"):
-            list(self.ranges(self.server().url + "nowhere/").read(0, 10))
+            read(self.ranges(self.server().url + "nowhere/"), 0, 10)
 
     def test_endless(self) -> None:
         """Of a body without end no more is read than was asked for."""
-        data = b"".join(self.ranges(self.server("endless").url).read(0, 100))
+        data = read(self.ranges(self.server("endless").url), 0, 100)
         self.assertEqual(len(data), 100)
 
     def test_own_machine(self) -> None:

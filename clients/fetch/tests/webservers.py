@@ -5,11 +5,14 @@ from __future__ import annotations
 import contextlib
 import http.server
 import re
+import select
 import ssl
 import threading
 import time
 
 CHUNK = 1 << 18
+SHORT = 100  # bytes of a body that is sent at once in any case
+LONGEST_WAIT = 20.0  # seconds for a request that comes ahead
 
 
 class Quiet(http.server.ThreadingHTTPServer):
@@ -40,12 +43,18 @@ class WebServer:
         self._due = 0.0  # when the next bytes may be sent
         self._lock = threading.Lock()
         self.requests: list[tuple[str, str]] = []  # the path and the range of each
+        self.connections = 0
+        self.was_ahead = False  # whether a request came while the answer before it was sent
         server = self
 
         class Handler(http.server.BaseHTTPRequestHandler):
             """Answers one client."""
 
             protocol_version = "HTTP/1.1"
+
+            def setup(self) -> None:
+                server.connections += 1
+                super().setup()
 
             def do_GET(self) -> None:
                 server.requests.append((self.path, self.headers.get("Range", "")))
@@ -96,6 +105,13 @@ class WebServer:
             handler.send_header(name, value)
         handler.end_headers()
         view = memoryview(body)
+        if self.lies in ("waiting", "hasty") and len(body) > SHORT and not self.was_ahead:
+            handler.wfile.write(view[: 2 * len(view) // 3])
+            view = view[2 * len(view) // 3 :]
+            self.was_ahead = bool(select.select([handler.connection], [], [], LONGEST_WAIT)[0])
+            if self.was_ahead and self.lies == "hasty":
+                handler.close_connection = True
+                return
         while view:
             self.wait_for(min(CHUNK, len(view)))
             handler.wfile.write(view[:CHUNK])
