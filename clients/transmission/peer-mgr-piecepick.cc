@@ -13,11 +13,13 @@
 namespace
 {
 auto constexpr BlockSize = tr_block_info::BlockSize;
-auto constexpr Deepest = uint32_t{ 2000U }; // requests in flight at a peer
-auto constexpr LeastShare = uint32_t{ 4U };
+auto constexpr Deepest = uint32_t{ 1000U }; // requests in flight at a peer
+auto constexpr LeastDepth = uint32_t{ 4U };
+auto constexpr FirstDepth = uint32_t{ 32U };
 auto constexpr LateMsec = uint64_t{ 10000U }; // a peer that sends no block for so long is late with all requests
-auto constexpr RampMsec = uint64_t{ 5000U }; // so long a peer has all requests that are wanted, and then some for 1.5 seconds
 auto constexpr LookMsec = uint64_t{ 1000U };
+auto constexpr MostMsec = uint64_t{ 1500U }; // requests of so long are in flight at most
+auto constexpr RampMsec = uint64_t{ 2000U }; // so long the rate says too little
 } // namespace
 
 // Where there is no such peer, it is the number of the disk.
@@ -43,6 +45,7 @@ void PiecePick::open(tr_torrent& tor)
     }
     options_.workers = std::size(workers_) + 1U;
     options_.deepest = Deepest;
+    options_.rush = LeastDepth;
     piecepick_picker* picker = nullptr;
     auto const* const data = reinterpret_cast<uint8_t const*>(std::data(digests));
     auto const size = std::size(digests) * sizeof(tr_sha1_digest_t);
@@ -99,6 +102,8 @@ void PiecePick::join(tr_peer& peer)
     if (serves_)
     {
         workers_[worker].peer = &peer;
+        workers_[worker].msgs = dynamic_cast<tr_peerMsgs*>(&peer);
+        workers_[worker].ramp = FirstDepth;
         piecepick_depth_by_rate_begin(&workers_[worker].rate, &options_, tr_time_msec());
         show(worker);
     }
@@ -136,6 +141,7 @@ void PiecePick::told(tr_peer& peer, tr_peer_event const& event)
     {
     case Type::ClientGotHave:
         call(piecepick_have, worker, event.pieceIndex);
+        ask_again(workers_[worker]);
         break;
     case Type::ClientGotHaveAll:
     case Type::ClientGotBitfield:
@@ -149,12 +155,41 @@ void PiecePick::told(tr_peer& peer, tr_peer_event const& event)
         call(piecepick_release, worker, event.pieceIndex, event.offset);
         break;
     case Type::ClientGotBlock:
-        workers_[worker].heard_at = tr_time_msec();
-        piecepick_depth_by_rate_came(&workers_[worker].rate, event.length, workers_[worker].heard_at);
         call(piecepick_received, worker, event.pieceIndex, event.offset, event.length);
+        came(workers_[worker], event);
+        ask_again(workers_[worker]);
         break;
     default:
         break;
+    }
+}
+
+void PiecePick::came(Worker& worker, tr_peer_event const& event)
+{
+    worker.heard_at = tr_time_msec();
+    piecepick_depth_by_rate_came(&worker.rate, event.length, worker.heard_at);
+    if (worker.probe == tor_->piece_loc(event.pieceIndex, event.offset).block)
+    {
+        worker.probe.reset();
+        follow(worker, worker.heard_at - worker.probed_at);
+    }
+}
+
+// The probe was asked for behind three quarters of the others. Where the line is what bounds the rate, it takes less time than all
+// of them do. Where it takes longer, more have to be in flight.
+void PiecePick::follow(Worker& worker, uint64_t took)
+{
+    worker.least_msec = worker.least_msec == 0U ? std::min(100U + 2U * took, MostMsec) : worker.least_msec;
+    worker.ramp = took <= worker.msec ? std::min(worker.ramp * 2U, Deepest) : std::max(worker.ramp / 2U, FirstDepth);
+    worker.msec = std::clamp(std::max(took, worker.msec - worker.msec / 32U), worker.least_msec, MostMsec);
+}
+
+// A peer is asked again once a quarter of what was in flight has come, while transmission itself asks twice a second.
+void PiecePick::ask_again(Worker const& worker)
+{
+    if (worker.msgs != nullptr && worker.msgs->active_requests.count() <= worker.asks_at)
+    {
+        worker.msgs->pulse();
     }
 }
 
@@ -179,28 +214,36 @@ void PiecePick::ask_for(tr_torrent& tor, std::vector<tr_peerMsgs*> const& peers,
 
 std::optional<std::vector<tr_block_span_t>> PiecePick::next(size_t n_wanted_blocks)
 {
+    auto const now = tr_time_msec();
+    look_over(now);
     if (!serves_)
     {
         return {};
     }
     auto& worker = workers_[asked_];
-    auto const now = tr_time_msec();
     auto const n_active = call<uint32_t>(piecepick_outstanding, asked_);
     worker.heard_at = n_active == 0U ? now : worker.heard_at;
     worker.rate.begin = worker.rate.is_begun ? worker.rate.begin : now;
-    auto const by_rate = piecepick_depth_by_rate_follow(&worker.rate, now);
-    look_over(now, is_ending_ && n_active < by_rate && now - shared_at_ >= LookMsec / 4U);
-    auto const depth = now - worker.rate.begin < RampMsec ? Deepest : by_rate * 3U / 2U;
-    call(piecepick_depth, asked_, std::min({ n_active + uint32_t(n_wanted_blocks), depth, Deepest }));
+    auto const by_rate = piecepick_depth_by_rate_follow(&worker.rate, now) * worker.msec / 1000U;
+    auto const least = worker.msgs == nullptr ? Deepest : now - worker.rate.begin < RampMsec ? worker.ramp : LeastDepth;
+    auto const most = std::min<uint64_t>(n_active + n_wanted_blocks, Deepest);
+    call(piecepick_depth, asked_, uint32_t(std::min(most, std::max<uint64_t>(by_rate, least))));
     call(piecepick_unchoke, asked_);
-    return ask(n_wanted_blocks);
+    auto spans = ask();
+    worker.asks_at = call<uint32_t>(piecepick_outstanding, asked_) * 3U / 4U;
+    if (!std::empty(spans) && (!worker.probe || now - worker.probed_at > 2U * MostMsec))
+    {
+        worker.probe = spans.front().begin;
+        worker.probed_at = now;
+    }
+    return spans;
 }
 
-std::vector<tr_block_span_t> PiecePick::ask(size_t n_wanted_blocks)
+std::vector<tr_block_span_t> PiecePick::ask()
 {
     auto spans = std::vector<tr_block_span_t>{};
     auto& worker = workers_[asked_];
-    for (auto is_idle = worker.idle_at == call<uint64_t>(piecepick_epoch); !is_idle && std::size(spans) < n_wanted_blocks;)
+    for (auto is_idle = worker.idle_at == call<uint64_t>(piecepick_epoch); !is_idle;)
     {
         auto const answer = call(piecepick_next, asked_, salter_());
         auto const block = tor_->piece_loc(answer.piece, answer.begin).block;
@@ -212,55 +255,34 @@ std::vector<tr_block_span_t> PiecePick::ask(size_t n_wanted_blocks)
         {
             is_idle = true;
             worker.idle_at = call<uint64_t>(piecepick_epoch);
-            is_ending_ = is_ending_ || answer.kind == PIECEPICK_K_IDLE;
         }
-        else if (!is_active(asked_, answer)) // else it was in flight before the picker was
+        else if (is_active(asked_, answer))
+        {
+            continue; // it was in flight before the picker was
+        }
+        else if (!std::empty(spans) && spans.back().end == block)
+        {
+            ++spans.back().end;
+        }
+        else
         {
             spans.push_back({ block, block + 1U });
-            auto const rule = call<uint32_t>(piecepick_rule, answer.piece, answer.begin / BlockSize);
-            is_ending_ = rule >= PIECEPICK_RULE_ENDGAME;
-            if (is_ending_)
-            {
-                call(piecepick_depth, asked_, rule == PIECEPICK_RULE_LATE ? worker.fair_share : LeastShare);
-            }
         }
     }
     return spans;
 }
 
-// Once nothing else is left to ask for, a peer keeps what it will have sent when all could be there. Cancels would come too late
-// for the rest, since seeders hold long queues. So it is told late, and one that has nothing else to send may be asked for it.
-void PiecePick::share_out(uint64_t now)
-{
-    auto all = uint64_t{ 1U };
-    for (auto& worker : workers_)
-    {
-        piecepick_depth_by_rate_turn(&worker.rate, now);
-        worker.fair_share = piecepick_depth_by_rate_blocks(&worker.rate, 8U);
-        all += worker.fair_share;
-    }
-    auto const n_missing = tor_->left_until_done() / BlockSize + 1U;
-    for (auto& worker : workers_)
-    {
-        worker.fair_share = std::min<uint64_t>(worker.fair_share * n_missing / all + LeastShare, Deepest);
-    }
-}
-
 // Which requests are late; and which weren't sent, since a web seed sends less than was chosen.
-void PiecePick::look_over(uint64_t now, bool shares)
+void PiecePick::look_over(uint64_t now)
 {
-    if (!shares && now - looked_at_ < LookMsec)
+    if (now - looked_at_ < LookMsec)
     {
         return;
     }
     looked_at_ = now;
-    shared_at_ = shares ? now : shared_at_;
-    share_out(now);
     for (uint32_t number = 0U; number < std::size(workers_); ++number)
     {
-        auto const& worker = workers_[number];
-        auto const is_silent = now - worker.heard_at >= LateMsec;
-        auto const keeps = shares ? worker.fair_share + worker.fair_share / 4U : Deepest;
+        auto const is_silent = now - workers_[number].heard_at >= LateMsec;
         for (auto place = call<uint32_t>(piecepick_outstanding, number); place > 0U; --place)
         {
             auto const request = call(piecepick_outstanding_at, number, place - 1U);
@@ -268,7 +290,7 @@ void PiecePick::look_over(uint64_t now, bool shares)
             {
                 call(piecepick_release, number, request.piece, request.begin);
             }
-            else if (is_silent || place > keeps)
+            else if (is_silent)
             {
                 call(piecepick_late, number, request.piece, request.begin);
             }
