@@ -15,7 +15,6 @@ namespace
 auto constexpr BlockSize = tr_block_info::BlockSize;
 auto constexpr Deepest = uint32_t{ 1000U }; // requests in flight at a peer
 auto constexpr LeastDepth = uint32_t{ 4U };
-auto constexpr FirstDepth = uint32_t{ 32U };
 auto constexpr LateMsec = uint64_t{ 10000U }; // a peer that sends no block for so long is late with all requests
 auto constexpr LookMsec = uint64_t{ 1000U };
 auto constexpr MostMsec = uint64_t{ 1500U }; // requests of so long are in flight at most
@@ -103,8 +102,8 @@ void PiecePick::join(tr_peer& peer)
     {
         workers_[worker].peer = &peer;
         workers_[worker].msgs = dynamic_cast<tr_peerMsgs*>(&peer);
-        workers_[worker].ramp = FirstDepth;
         piecepick_depth_by_rate_begin(&workers_[worker].rate, &options_, tr_time_msec());
+        workers_[worker].rate.deepest = 4096U; // what comes in a second may be more than is in flight
         show(worker);
     }
 }
@@ -175,13 +174,18 @@ void PiecePick::came(Worker& worker, tr_peer_event const& event)
     }
 }
 
-// The probe was asked for behind three quarters of the others. Where the line is what bounds the rate, it takes less time than all
-// of them do. Where it takes longer, more have to be in flight.
+// The probe was asked for behind most of what was in flight. Where the line is what bounds the rate, it takes less time than all of
+// that. Where it takes longer, more has to be in flight. While the rate is unknown, the depth doubles as long as the probe is quick.
 void PiecePick::follow(Worker& worker, uint64_t took)
 {
+    if (worker.probed_at - worker.rate.begin >= RampMsec)
+    {
+        worker.msec = std::clamp(std::max(took, worker.msec - worker.msec / 32U), worker.least_msec, MostMsec);
+        return;
+    }
     worker.least_msec = worker.least_msec == 0U ? std::min(100U + 2U * took, MostMsec) : worker.least_msec;
-    worker.ramp = took <= worker.msec ? std::min(worker.ramp * 2U, Deepest) : std::max(worker.ramp / 2U, FirstDepth);
-    worker.msec = std::clamp(std::max(took, worker.msec - worker.msec / 32U), worker.least_msec, MostMsec);
+    worker.msec = worker.least_msec;
+    worker.ramp = took <= worker.msec ? std::min(worker.ramp * 2U, Deepest) : std::max(worker.ramp / 2U, LeastDepth);
 }
 
 // A peer is asked again once a quarter of what was in flight has come, while transmission itself asks twice a second.
@@ -225,12 +229,14 @@ std::optional<std::vector<tr_block_span_t>> PiecePick::next(size_t n_wanted_bloc
     worker.heard_at = n_active == 0U ? now : worker.heard_at;
     worker.rate.begin = worker.rate.is_begun ? worker.rate.begin : now;
     auto const by_rate = piecepick_depth_by_rate_follow(&worker.rate, now) * worker.msec / 1000U;
-    auto const least = worker.msgs == nullptr ? Deepest : now - worker.rate.begin < RampMsec ? worker.ramp : LeastDepth;
+    auto const is_ramp = now - worker.rate.begin < RampMsec;
+    auto const least = worker.msgs == nullptr ? Deepest : is_ramp ? worker.ramp : LeastDepth;
     auto const most = std::min<uint64_t>(n_active + n_wanted_blocks, Deepest);
     call(piecepick_depth, asked_, uint32_t(std::min(most, std::max<uint64_t>(by_rate, least))));
     call(piecepick_unchoke, asked_);
     auto spans = ask();
-    worker.asks_at = call<uint32_t>(piecepick_outstanding, asked_) * 3U / 4U;
+    auto const n_asked = call<uint32_t>(piecepick_outstanding, asked_);
+    worker.asks_at = n_asked * (is_ramp ? 7U : 6U) / 8U;
     if (!std::empty(spans) && (!worker.probe || now - worker.probed_at > 2U * MostMsec))
     {
         worker.probe = spans.front().begin;

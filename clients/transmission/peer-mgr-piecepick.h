@@ -39,7 +39,7 @@ private:
         std::optional<uint64_t> idle_at; // the epoch in which there was nothing to ask for
         piecepick_depth_by_rate rate = {};
         uint32_t asks_at = 0U; // with so many in flight it is asked again
-        uint32_t ramp = 0U; // the depth until the rate is known
+        uint32_t ramp = 32U; // the depth until the rate is known
         uint64_t msec = 500U; // requests of so long are in flight
         uint64_t least_msec = 0U; // by how long the first one took
         std::optional<tr_block_index_t> probe; // a request whose time is taken
