@@ -37,24 +37,19 @@ void PiecePick::open(tr_torrent& tor)
 {
     tor_ = &tor;
     workers_.resize(std::min(tor.peer_limit() + tor.webseed_count(), size_t{ 1023U })); // 1,024 with the disk
-    auto digests = std::vector<tr_sha1_digest_t>{};
-    for (tr_piece_index_t piece = 0U; piece < tor.piece_count(); ++piece)
-    {
-        digests.push_back(tor.piece_hash(piece));
-    }
+    auto const digests = std::vector<uint8_t>(tor.piece_count() * sizeof(tr_sha1_digest_t)); // transmission compares them itself
     options_.workers = std::size(workers_) + 1U;
     options_.deepest = Deepest;
     options_.rush = LeastDepth;
     piecepick_picker* picker = nullptr;
-    auto const* const data = reinterpret_cast<uint8_t const*>(std::data(digests));
-    auto const size = std::size(digests) * sizeof(tr_sha1_digest_t);
-    serves_ = piecepick_open_parts(&picker, tor.piece_size(), tor.total_size(), data, size, &options_) == PIECEPICK_OK;
+    auto const* const data = std::data(digests);
+    serves_ = piecepick_open_parts(&picker, tor.piece_size(), tor.total_size(), data, std::size(digests), &options_) == PIECEPICK_OK;
     picker_.reset(picker, [](auto* closed) { piecepick_close(&closed); });
     serves_ = serves_ && tor.piece_size() % BlockSize == 0U; // else blocks cross the borders of pieces
     restore();
     set_levels();
-    tags_ = { tor.got_bad_piece_.observe([this](tr_torrent*, tr_piece_index_t piece) { verdict(piece, false); }),
-              tor.piece_completed_.observe([this](tr_torrent*, tr_piece_index_t piece) { verdict(piece, true); }),
+    tags_ = { tor.got_bad_piece_.observe([this](tr_torrent*, tr_piece_index_t piece) { call(piecepick_verdict, piece, 0U); }),
+              tor.piece_completed_.observe([this](tr_torrent*, tr_piece_index_t piece) { call(piecepick_verdict, piece, 1U); }),
               tor.priority_changed_.observe([this](auto*, auto const*, auto, auto) { set_levels(); }),
               tor.sequential_download_changed_.observe([this](tr_torrent*, bool) { set_levels(); }) };
 }
@@ -84,13 +79,12 @@ void PiecePick::restore()
 void PiecePick::set_levels()
 {
     auto levels = std::vector<uint8_t>(tor_->piece_count());
-    auto const is_in_order = tor_->is_sequential_download();
     for (tr_piece_index_t piece = 0U; piece < std::size(levels); ++piece)
     {
         levels[piece] = tor_->piece_is_wanted(piece) ? 4U + tor_->piece_priority(piece) : 0U;
     }
     call(piecepick_set_levels, std::data(levels), std::size(levels));
-    call(piecepick_set_in_order, is_in_order ? 1U : 0U);
+    call(piecepick_set_in_order, tor_->is_sequential_download() ? 1U : 0U);
 }
 
 void PiecePick::join(tr_peer& peer)
@@ -178,14 +172,10 @@ void PiecePick::came(Worker& worker, tr_peer_event const& event)
 // that. Where it takes longer, more has to be in flight. While the rate is unknown, the depth doubles as long as the probe is quick.
 void PiecePick::follow(Worker& worker, uint64_t took)
 {
-    if (worker.probed_at - worker.rate.begin >= RampMsec)
-    {
-        worker.msec = std::clamp(std::max(took, worker.msec - worker.msec / 32U), worker.least_msec, MostMsec);
-        return;
-    }
     worker.least_msec = worker.least_msec == 0U ? std::min(100U + 2U * took, MostMsec) : worker.least_msec;
-    worker.msec = worker.least_msec;
-    worker.ramp = took <= worker.msec ? std::min(worker.ramp * 2U, Deepest) : std::max(worker.ramp / 2U, LeastDepth);
+    worker.ramp = took <= worker.least_msec ? std::min(worker.ramp * 2U, Deepest) : std::max(worker.ramp / 2U, LeastDepth);
+    auto const msec = worker.probed_at < worker.rate.begin + RampMsec ? 0U : std::max(took, worker.msec - worker.msec / 32U);
+    worker.msec = std::clamp(msec, worker.least_msec, MostMsec);
 }
 
 // A peer is asked again once a quarter of what was in flight has come, while transmission itself asks twice a second.
@@ -195,11 +185,6 @@ void PiecePick::ask_again(Worker const& worker)
     {
         worker.msgs->pulse();
     }
-}
-
-void PiecePick::verdict(tr_piece_index_t piece, bool passed)
-{
-    call(piecepick_verdict, piece, passed ? 1U : 0U);
 }
 
 void PiecePick::ask_for(tr_torrent& tor, std::vector<tr_peerMsgs*> const& peers, tr_peer const& peer)

@@ -59,7 +59,6 @@ private:
     void set_levels();
     void join(tr_peer& peer);
     void show(uint32_t worker);
-    void verdict(tr_piece_index_t piece, bool passed);
     void came(Worker& worker, tr_peer_event const& event);
     static void follow(Worker& worker, uint64_t took);
     static void ask_again(Worker const& worker);
