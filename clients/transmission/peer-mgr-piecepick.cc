@@ -48,7 +48,7 @@ void PiecePick::open(tr_torrent& tor)
     serves_ = serves_ && tor.piece_size() % BlockSize == 0U; // else blocks cross the borders of pieces
     restore();
     set_levels();
-    tags_ = { tor.got_bad_piece_.observe([this](tr_torrent*, tr_piece_index_t piece) { call(piecepick_verdict, piece, 0U); }),
+    tags_ = { tor.got_bad_piece_.observe([this](tr_torrent*, tr_piece_index_t piece) { failed(piece); }),
               tor.piece_completed_.observe([this](tr_torrent*, tr_piece_index_t piece) { call(piecepick_verdict, piece, 1U); }),
               tor.priority_changed_.observe([this](auto*, auto const*, auto, auto) { set_levels(); }),
               tor.sequential_download_changed_.observe([this](tr_torrent*, bool) { set_levels(); }) };
@@ -178,6 +178,22 @@ void PiecePick::follow(Worker& worker, uint64_t took)
     worker.msec = std::clamp(msec, worker.least_msec, MostMsec);
 }
 
+void PiecePick::failed(tr_piece_index_t piece)
+{
+    call(piecepick_verdict, piece, 0U);
+    set_alone(true);
+}
+
+// Once a piece has failed, each peer has pieces of its own, so that no other one gets a strike for who sends wrong bytes.
+void PiecePick::set_alone(bool is_alone)
+{
+    is_alone_ = is_alone;
+    for (uint32_t number = 0U; number < std::size(workers_); ++number)
+    {
+        call(piecepick_alone, number, is_alone ? 1U : 0U);
+    }
+}
+
 // A peer is asked again once a quarter of what was in flight has come, while transmission itself asks twice a second.
 void PiecePick::ask_again(Worker const& worker)
 {
@@ -241,6 +257,10 @@ std::vector<tr_block_span_t> PiecePick::ask()
         if (answer.kind == PIECEPICK_K_CANCEL)
         {
             worker.peer->maybe_cancel_block_request(block);
+        }
+        else if (is_alone_ && answer.kind == PIECEPICK_K_IDLE)
+        {
+            set_alone(false);
         }
         else if (answer.kind != PIECEPICK_K_REQUEST)
         {

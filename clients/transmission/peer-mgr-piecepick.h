@@ -60,6 +60,8 @@ private:
     void join(tr_peer& peer);
     void show(uint32_t worker);
     void came(Worker& worker, tr_peer_event const& event);
+    void failed(tr_piece_index_t piece);
+    void set_alone(bool is_alone);
     static void follow(Worker& worker, uint64_t took);
     static void ask_again(Worker const& worker);
     void look_over(uint64_t now);
@@ -71,6 +73,7 @@ private:
     tr_salt_shaker<uint64_t, 64U> salter_;
     uint32_t asked_ = 0U;
     uint64_t looked_at_ = 0U;
+    bool is_alone_ = false; // each peer has pieces of its own
     bool serves_ = false;
     std::array<libtransmission::ObserverTag, 4U> tags_;
 };
