@@ -67,7 +67,6 @@ inline auto constexpr AfterUnwanted = ReadState::Now;
 #else
 inline auto constexpr AfterUnwanted = ReadState::Err;
 #endif
-
 """
 CHANGED = "            priority_changed_.emit(this, files, n_files, TR_PRI_NORMAL); // no other event tells of wanted files\n"
 
@@ -81,11 +80,11 @@ EDITS = (
     behind(f"{WISHLIST}.h", r"libtransmission/observable\.h", '#include "libtransmission/peer-mgr-piecepick.h"\n'),
     before(f"{WISHLIST}.h", r"private:\n +class Impl;", guarded("    PiecePick piecepick;\n")),
     before(f"{WISHLIST}.cc", r"return impl_->next\(", guarded(ASK)),
-    fills(MANAGER, r"void remove_peer\(tr_peerMsgs", "        tr_piecepick_left(wishlist, *peer);\n"),
-    fills(MANAGER, r"msgs->swarm == s\)", "        tr_piecepick_told(s->wishlist, *msgs, event);\n"),
-    fills(MANAGER, r"static void peer_callback_webseed\(", "        tr_piecepick_told(s->wishlist, *peer, event);\n"),
+    fills(MANAGER, r"void remove_peer\(tr_peerMsgs", "        tr_piecepick(wishlist, left(*peer));\n"),
+    fills(MANAGER, r"msgs->swarm == s\)", "        tr_piecepick(s->wishlist, told(*msgs, event));\n"),
+    fills(MANAGER, r"static void peer_callback_webseed\(", "        tr_piecepick(s->wishlist, told(*peer, event));\n"),
     fills(MANAGER, r"GetNextRequests\(\) is called", ""),
-    before(MANAGER, r"return swarm\.wishlist->next\(", "    tr_piecepick_ask_for(swarm, *peer);\n"),
+    before(MANAGER, r"return swarm\.wishlist->next\(", "    tr_piecepick(swarm.wishlist, ask_for(*swarm.tor, swarm.peers, *peer));\n"),
     Edit(MESSAGES, r"got unrequested block[^\n]*\n[^\n]*(ReadState::Err)", "AfterUnwanted"),
     Edit(MESSAGES, r"got completed block[^\n]*\n[^\n]*(ReadState::Err)", "AfterUnwanted"),
     behind(f"{LIBRARY}/peer-msgs.h", r"^#include \"libtransmission/peer-common\.h\"", '#include "libtransmission/peer-io.h" // for ReadState\n'),

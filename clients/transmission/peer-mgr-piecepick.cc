@@ -12,11 +12,9 @@
 
 namespace
 {
-auto constexpr BlockSize = tr_block_info::BlockSize;
 auto constexpr Deepest = uint32_t{ 1000U }; // requests in flight at a peer
 auto constexpr LeastDepth = uint32_t{ 4U };
 auto constexpr LateMsec = uint64_t{ 10000U }; // a peer that sends no block for so long is late with all requests
-auto constexpr LookMsec = uint64_t{ 1000U };
 auto constexpr MostMsec = uint64_t{ 1500U }; // requests of so long are in flight at most
 auto constexpr RampMsec = uint64_t{ 2000U }; // so long the rate says too little
 } // namespace
@@ -26,11 +24,6 @@ uint32_t PiecePick::find(tr_peer const* peer) const
 {
     auto const it = std::find_if(std::begin(workers_), std::end(workers_), [peer](auto const& w) { return w.peer == peer; });
     return std::distance(std::begin(workers_), it);
-}
-
-bool PiecePick::is_active(uint32_t worker, piecepick_answer const& request) const
-{
-    return workers_[worker].peer->active_requests.test(tor_->piece_loc(request.piece, request.begin).block);
 }
 
 void PiecePick::open(tr_torrent& tor)
@@ -45,11 +38,11 @@ void PiecePick::open(tr_torrent& tor)
     auto const* const data = std::data(digests);
     serves_ = piecepick_open_parts(&picker, tor.piece_size(), tor.total_size(), data, std::size(digests), &options_) == PIECEPICK_OK;
     picker_.reset(picker, [](auto* closed) { piecepick_close(&closed); });
-    serves_ = serves_ && tor.piece_size() % BlockSize == 0U; // else blocks cross the borders of pieces
+    serves_ = serves_ && tor.piece_size() % tr_block_info::BlockSize == 0U; // else blocks cross the borders of pieces
     restore();
     set_levels();
-    tags_ = { tor.got_bad_piece_.observe([this](tr_torrent*, tr_piece_index_t piece) { failed(piece); }),
-              tor.piece_completed_.observe([this](tr_torrent*, tr_piece_index_t piece) { call(piecepick_verdict, piece, 1U); }),
+    tags_ = { tor.got_bad_piece_.observe([this](auto*, auto piece) { verdict(piece, false); }),
+              tor.piece_completed_.observe([this](auto*, auto piece) { verdict(piece, true); }),
               tor.priority_changed_.observe([this](auto*, auto const*, auto, auto) { set_levels(); }),
               tor.sequential_download_changed_.observe([this](tr_torrent*, bool) { set_levels(); }) };
 }
@@ -63,9 +56,8 @@ void PiecePick::restore()
         if (tor_->has_piece(piece))
         {
             call(piecepick_resume, disk, piece, 1U);
-            continue;
         }
-        for (auto [block, end] = tor_->block_span_for_piece(piece); block < end; ++block)
+        for (auto [block, end] = tor_->block_span_for_piece(piece); block < end && !tor_->has_piece(piece); ++block)
         {
             if (tor_->has_block(block))
             {
@@ -73,7 +65,6 @@ void PiecePick::restore()
             }
         }
     }
-    call(piecepick_leave, disk);
 }
 
 void PiecePick::set_levels()
@@ -98,6 +89,7 @@ void PiecePick::join(tr_peer& peer)
         workers_[worker].msgs = dynamic_cast<tr_peerMsgs*>(&peer);
         piecepick_depth_by_rate_begin(&workers_[worker].rate, &options_, tr_time_msec());
         workers_[worker].rate.deepest = 4096U; // what comes in a second may be more than is in flight
+        call(piecepick_alone, worker, 1U);
         show(worker);
     }
 }
@@ -134,7 +126,6 @@ void PiecePick::told(tr_peer& peer, tr_peer_event const& event)
     {
     case Type::ClientGotHave:
         call(piecepick_have, worker, event.pieceIndex);
-        ask_again(workers_[worker]);
         break;
     case Type::ClientGotHaveAll:
     case Type::ClientGotBitfield:
@@ -146,61 +137,54 @@ void PiecePick::told(tr_peer& peer, tr_peer_event const& event)
     case Type::ClientGotRej:
     case Type::ClientSentCancel:
         call(piecepick_release, worker, event.pieceIndex, event.offset);
-        break;
+        return;
     case Type::ClientGotBlock:
         call(piecepick_received, worker, event.pieceIndex, event.offset, event.length);
         came(workers_[worker], event);
-        ask_again(workers_[worker]);
         break;
     default:
-        break;
+        return;
+    }
+    // A peer is asked again once a quarter of what was in flight has come, while transmission itself asks twice a second.
+    auto* const msgs = workers_[worker].msgs;
+    if (msgs != nullptr && msgs->active_requests.count() <= workers_[worker].asks_at && !msgs->peer_info->is_banned())
+    {
+        msgs->pulse();
     }
 }
 
+// The probe was asked for behind most of what was in flight. Where the line is what bounds the rate, it takes less time than all of
+// that. Where it takes longer, more has to be in flight. While the rate is unknown, the depth doubles as long as the probe is quick.
 void PiecePick::came(Worker& worker, tr_peer_event const& event)
 {
     worker.heard_at = tr_time_msec();
     piecepick_depth_by_rate_came(&worker.rate, event.length, worker.heard_at);
     if (worker.probe == tor_->piece_loc(event.pieceIndex, event.offset).block)
     {
+        auto const took = worker.heard_at - worker.probed_at;
+        auto const least = worker.least_msec == 0U ? std::min(75U + 2U * took, MostMsec) : worker.least_msec;
+        auto const msec = worker.probed_at < worker.rate.begin + RampMsec ? 0U : std::max(took, worker.msec - worker.msec / 32U);
+        worker.ramp = took <= least / 2U ? std::min(worker.ramp * 2U, Deepest) : took <= least ? worker.ramp : worker.ramp / 2U;
+        worker.msec = std::clamp(msec, least, MostMsec);
+        worker.least_msec = least;
         worker.probe.reset();
-        follow(worker, worker.heard_at - worker.probed_at);
     }
 }
 
-// The probe was asked for behind most of what was in flight. Where the line is what bounds the rate, it takes less time than all of
-// that. Where it takes longer, more has to be in flight. While the rate is unknown, the depth doubles as long as the probe is quick.
-void PiecePick::follow(Worker& worker, uint64_t took)
+// A peer has pieces of its own, and few requests once one failed, until one that it had a part in passes. So who sends wrong bytes
+// spoils no other one's pieces, and nobody else gets strikes.
+void PiecePick::verdict(tr_piece_index_t piece, bool passed)
 {
-    worker.least_msec = worker.least_msec == 0U ? std::min(100U + 2U * took, MostMsec) : worker.least_msec;
-    worker.ramp = took <= worker.least_msec ? std::min(worker.ramp * 2U, Deepest) : std::max(worker.ramp / 2U, LeastDepth);
-    auto const msec = worker.probed_at < worker.rate.begin + RampMsec ? 0U : std::max(took, worker.msec - worker.msec / 32U);
-    worker.msec = std::clamp(msec, worker.least_msec, MostMsec);
-}
-
-void PiecePick::failed(tr_piece_index_t piece)
-{
-    call(piecepick_verdict, piece, 0U);
-    set_alone(true);
-}
-
-// Once a piece has failed, each peer has pieces of its own, so that no other one gets a strike for who sends wrong bytes.
-void PiecePick::set_alone(bool is_alone)
-{
-    is_alone_ = is_alone;
-    for (uint32_t number = 0U; number < std::size(workers_); ++number)
+    for (auto [block, end] = tor_->block_span_for_piece(piece); block < end; --end)
     {
-        call(piecepick_alone, number, is_alone ? 1U : 0U);
+        auto const sender = call<uint32_t>(piecepick_sender, piece, end - block - 1U);
+        call(piecepick_alone, sender, passed ? 0U : 1U);
+        if (sender < std::size(workers_))
+        {
+            workers_[sender].is_bad = !passed;
+        }
     }
-}
-
-// A peer is asked again once a quarter of what was in flight has come, while transmission itself asks twice a second.
-void PiecePick::ask_again(Worker const& worker)
-{
-    if (worker.msgs != nullptr && worker.msgs->active_requests.count() <= worker.asks_at)
-    {
-        worker.msgs->pulse();
-    }
+    call(piecepick_verdict, piece, passed ? 1U : 0U);
 }
 
 void PiecePick::ask_for(tr_torrent& tor, std::vector<tr_peerMsgs*> const& peers, tr_peer const& peer)
@@ -231,13 +215,12 @@ std::optional<std::vector<tr_block_span_t>> PiecePick::next(size_t n_wanted_bloc
     worker.rate.begin = worker.rate.is_begun ? worker.rate.begin : now;
     auto const by_rate = piecepick_depth_by_rate_follow(&worker.rate, now) * worker.msec / 1000U;
     auto const is_ramp = now - worker.rate.begin < RampMsec;
-    auto const least = worker.msgs == nullptr ? Deepest : is_ramp ? worker.ramp : LeastDepth;
-    auto const most = std::min<uint64_t>(n_active + n_wanted_blocks, Deepest);
+    auto const least = worker.msgs == nullptr ? Deepest : is_ramp ? std::max(worker.ramp, LeastDepth) : LeastDepth;
+    auto const most = std::min<uint64_t>(n_active + n_wanted_blocks, worker.is_bad ? LeastDepth : Deepest);
     call(piecepick_depth, asked_, uint32_t(std::min(most, std::max<uint64_t>(by_rate, least))));
     call(piecepick_unchoke, asked_);
     auto spans = ask();
-    auto const n_asked = call<uint32_t>(piecepick_outstanding, asked_);
-    worker.asks_at = n_asked * (is_ramp ? 7U : 6U) / 8U;
+    worker.asks_at = call<uint32_t>(piecepick_outstanding, asked_) * (is_ramp ? 7U : 6U) / 8U;
     if (!std::empty(spans) && (!worker.probe || now - worker.probed_at > 2U * MostMsec))
     {
         worker.probe = spans.front().begin;
@@ -258,24 +241,16 @@ std::vector<tr_block_span_t> PiecePick::ask()
         {
             worker.peer->maybe_cancel_block_request(block);
         }
-        else if (is_alone_ && answer.kind == PIECEPICK_K_IDLE)
-        {
-            set_alone(false);
-        }
         else if (answer.kind != PIECEPICK_K_REQUEST)
         {
             is_idle = true;
             worker.idle_at = call<uint64_t>(piecepick_epoch);
+            for (uint32_t number = 0U; answer.kind == PIECEPICK_K_IDLE && number < std::size(workers_); ++number)
+            {
+                call(piecepick_alone, number, 0U); // the last pieces are shared
+            }
         }
-        else if (is_active(asked_, answer))
-        {
-            continue; // it was in flight before the picker was
-        }
-        else if (!std::empty(spans) && spans.back().end == block)
-        {
-            ++spans.back().end;
-        }
-        else
+        else if (!worker.peer->active_requests.test(block)) // else it was in flight before the picker was
         {
             spans.push_back({ block, block + 1U });
         }
@@ -286,7 +261,7 @@ std::vector<tr_block_span_t> PiecePick::ask()
 // Which requests are late; and which weren't sent, since a web seed sends less than was chosen.
 void PiecePick::look_over(uint64_t now)
 {
-    if (now - looked_at_ < LookMsec)
+    if (now - looked_at_ < 1000U) // msec
     {
         return;
     }
@@ -297,13 +272,10 @@ void PiecePick::look_over(uint64_t now)
         for (auto place = call<uint32_t>(piecepick_outstanding, number); place > 0U; --place)
         {
             auto const request = call(piecepick_outstanding_at, number, place - 1U);
-            if (!is_active(number, request))
+            auto const block = tor_->piece_loc(request.piece, request.begin).block;
+            if (auto const is_sent = workers_[number].peer->active_requests.test(block); !is_sent || is_silent)
             {
-                call(piecepick_release, number, request.piece, request.begin);
-            }
-            else if (is_silent)
-            {
-                call(piecepick_late, number, request.piece, request.begin);
+                call(is_sent ? piecepick_late : piecepick_release, number, request.piece, request.begin);
             }
         }
     }

@@ -39,6 +39,7 @@ private:
         std::optional<uint64_t> idle_at; // the epoch in which there was nothing to ask for
         piecepick_depth_by_rate rate = {};
         uint32_t asks_at = 0U; // with so many in flight it is asked again
+        bool is_bad = false; // a piece that it had a part in failed, and none has passed since
         uint32_t ramp = 32U; // the depth until the rate is known
         uint64_t msec = 500U; // requests of so long are in flight
         uint64_t least_msec = 0U; // by how long the first one took
@@ -53,17 +54,13 @@ private:
         return answer;
     }
     [[nodiscard]] uint32_t find(tr_peer const* peer) const;
-    [[nodiscard]] bool is_active(uint32_t worker, piecepick_answer const& request) const;
     void open(tr_torrent& tor);
     void restore();
     void set_levels();
     void join(tr_peer& peer);
     void show(uint32_t worker);
     void came(Worker& worker, tr_peer_event const& event);
-    void failed(tr_piece_index_t piece);
-    void set_alone(bool is_alone);
-    static void follow(Worker& worker, uint64_t took);
-    static void ask_again(Worker const& worker);
+    void verdict(tr_piece_index_t piece, bool passed);
     void look_over(uint64_t now);
     [[nodiscard]] std::vector<tr_block_span_t> ask();
     tr_torrent* tor_ = nullptr;
@@ -73,17 +70,12 @@ private:
     tr_salt_shaker<uint64_t, 64U> salter_;
     uint32_t asked_ = 0U;
     uint64_t looked_at_ = 0U;
-    bool is_alone_ = false; // each peer has pieces of its own
     bool serves_ = false;
     std::array<libtransmission::ObserverTag, 4U> tags_;
 };
 
 // The hooks of peer-mgr.cc, which are nothing without the library.
-#define tr_piecepick_told(wishes, peer, event) (wishes ? wishes->piecepick.told(peer, event) : void())
-#define tr_piecepick_left(wishes, peer) (wishes ? wishes->piecepick.left(peer) : void())
-#define tr_piecepick_ask_for(swarm, peer) swarm.wishlist->piecepick.ask_for(*swarm.tor, swarm.peers, peer)
+#define tr_piecepick(wishes, call) (wishes ? wishes->piecepick.call : void())
 #else
-#define tr_piecepick_told(wishes, peer, event)
-#define tr_piecepick_left(wishes, peer)
-#define tr_piecepick_ask_for(swarm, peer)
+#define tr_piecepick(wishes, call)
 #endif
