@@ -12,7 +12,7 @@
 
 namespace
 {
-auto constexpr Deepest = uint32_t{ 1000U }; // requests in flight at a peer
+auto constexpr Deepest = uint32_t{ 800U }; // requests in flight at a peer
 auto constexpr LeastDepth = uint32_t{ 4U };
 auto constexpr LateMsec = uint64_t{ 10000U }; // a peer that sends no block for so long is late with all requests
 auto constexpr MostMsec = uint64_t{ 1500U }; // requests of so long are in flight at most
@@ -36,9 +36,9 @@ void PiecePick::open(tr_torrent& tor)
     options_.rush = LeastDepth;
     piecepick_picker* picker = nullptr;
     auto const* const data = std::data(digests);
-    serves_ = piecepick_open_parts(&picker, tor.piece_size(), tor.total_size(), data, std::size(digests), &options_) == PIECEPICK_OK;
+    serves_ = piecepick_open_parts(&picker, tor.piece_size(), tor.total_size(), data, std::size(digests), &options_) == PIECEPICK_OK &&
+        tor.piece_size() % tr_block_info::BlockSize == 0U; // else blocks cross the borders of pieces
     picker_.reset(picker, [](auto* closed) { piecepick_close(&closed); });
-    serves_ = serves_ && tor.piece_size() % tr_block_info::BlockSize == 0U; // else blocks cross the borders of pieces
     restore();
     set_levels();
     tags_ = { tor.got_bad_piece_.observe([this](auto*, auto piece) { verdict(piece, false); }),
@@ -90,6 +90,7 @@ void PiecePick::join(tr_peer& peer)
         piecepick_depth_by_rate_begin(&workers_[worker].rate, &options_, tr_time_msec());
         workers_[worker].rate.deepest = 4096U; // what comes in a second may be more than is in flight
         call(piecepick_alone, worker, 1U);
+        is_alone_ = true;
         show(worker);
     }
 }
@@ -115,7 +116,6 @@ void PiecePick::left(tr_peer const& peer)
 
 void PiecePick::told(tr_peer& peer, tr_peer_event const& event)
 {
-    using Type = tr_peer_event::Type;
     auto const worker = find(&peer);
     if (worker == std::size(workers_))
     {
@@ -124,21 +124,21 @@ void PiecePick::told(tr_peer& peer, tr_peer_event const& event)
     workers_[worker].idle_at.reset();
     switch (event.type)
     {
-    case Type::ClientGotHave:
+    case tr_peer_event::Type::ClientGotHave:
         call(piecepick_have, worker, event.pieceIndex);
         break;
-    case Type::ClientGotHaveAll:
-    case Type::ClientGotBitfield:
+    case tr_peer_event::Type::ClientGotHaveAll:
+    case tr_peer_event::Type::ClientGotBitfield:
         show(worker);
         break;
-    case Type::ClientGotChoke:
+    case tr_peer_event::Type::ClientGotChoke:
         call(piecepick_choke, worker);
         break;
-    case Type::ClientGotRej:
-    case Type::ClientSentCancel:
+    case tr_peer_event::Type::ClientGotRej:
+    case tr_peer_event::Type::ClientSentCancel:
         call(piecepick_release, worker, event.pieceIndex, event.offset);
         return;
-    case Type::ClientGotBlock:
+    case tr_peer_event::Type::ClientGotBlock:
         call(piecepick_received, worker, event.pieceIndex, event.offset, event.length);
         came(workers_[worker], event);
         break;
@@ -153,8 +153,7 @@ void PiecePick::told(tr_peer& peer, tr_peer_event const& event)
     }
 }
 
-// The probe was asked for behind most of what was in flight. Where the line is what bounds the rate, it takes less time than all of
-// that. Where it takes longer, more has to be in flight. While the rate is unknown, the depth doubles as long as the probe is quick.
+// The probe was asked for behind most of what was in flight. Where it takes longer than all of that may, more has to be.
 void PiecePick::came(Worker& worker, tr_peer_event const& event)
 {
     worker.heard_at = tr_time_msec();
@@ -171,8 +170,7 @@ void PiecePick::came(Worker& worker, tr_peer_event const& event)
     }
 }
 
-// A peer has pieces of its own, and few requests once one failed, until one that it had a part in passes. So who sends wrong bytes
-// spoils no other one's pieces, and nobody else gets strikes.
+// A peer has pieces of its own until one passes, and few requests once one failed. So nobody else gets strikes for its bytes.
 void PiecePick::verdict(tr_piece_index_t piece, bool passed)
 {
     for (auto [block, end] = tor_->block_span_for_piece(piece); block < end; --end)
@@ -184,6 +182,7 @@ void PiecePick::verdict(tr_piece_index_t piece, bool passed)
             workers_[sender].is_bad = !passed;
         }
     }
+    is_alone_ = is_alone_ || !passed;
     call(piecepick_verdict, piece, passed ? 1U : 0U);
 }
 
@@ -243,12 +242,13 @@ std::vector<tr_block_span_t> PiecePick::ask()
         }
         else if (answer.kind != PIECEPICK_K_REQUEST)
         {
-            is_idle = true;
+            is_idle = answer.kind != PIECEPICK_K_IDLE || !is_alone_;
             worker.idle_at = call<uint64_t>(piecepick_epoch);
-            for (uint32_t number = 0U; answer.kind == PIECEPICK_K_IDLE && number < std::size(workers_); ++number)
+            for (uint32_t number = 0U; !is_idle && number < std::size(workers_); ++number)
             {
                 call(piecepick_alone, number, 0U); // the last pieces are shared
             }
+            is_alone_ = is_alone_ && is_idle;
         }
         else if (!worker.peer->active_requests.test(block)) // else it was in flight before the picker was
         {

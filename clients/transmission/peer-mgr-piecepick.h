@@ -70,6 +70,7 @@ private:
     tr_salt_shaker<uint64_t, 64U> salter_;
     uint32_t asked_ = 0U;
     uint64_t looked_at_ = 0U;
+    bool is_alone_ = false; // some peers have pieces of their own
     bool serves_ = false;
     std::array<libtransmission::ObserverTag, 4U> tags_;
 };

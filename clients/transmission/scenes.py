@@ -22,6 +22,7 @@ from collections.abc import Iterator
 from dataclasses import asdict
 from pathlib import Path
 
+from daemon import READY
 from network import Line
 from trial import MEGABYTE, Content, Figures, Host, Scene, Store, Trial, trial_of
 
@@ -40,17 +41,30 @@ FILES = Content((40 * MB, 40 * MB, 40 * MB))
 
 def stop_and_start(trial: Trial) -> None:
     """The download is stopped at its half, and started again."""
+    leecher = trial.leechers[0]
     trial.waits_for(0.5)
-    trial.leechers[0].call("torrent-stop", ids=[1])
+    leecher.call("torrent-stop", ids=[1])
+    had = trial.had(leecher)
     time.sleep(2.0)
-    trial.leechers[0].call("torrent-start", ids=[1])
+    leecher.call("torrent-start", ids=[1])
+    tell_lost(trial, had)
 
 
 def kill_and_start(trial: Trial) -> None:
     """The leecher is killed at its half, and started again."""
+    leecher = trial.leechers[0]
     trial.waits_for(0.5)
-    trial.leechers[0].stop(signal.SIGKILL)
-    trial.leechers[0].start(trial.scene.settings)
+    had = trial.had(leecher)
+    leecher.stop(signal.SIGKILL)
+    leecher.start(trial.scene.settings)
+    tell_lost(trial, had)
+
+
+def tell_lost(trial: Trial, had: int) -> None:
+    """How much of what the first leecher had it doesn't know of any more. All of that comes twice, whatever the picker does."""
+    leecher = trial.leechers[0]
+    trial.until(lambda: "haveValid" in leecher.fields("haveValid"), READY)
+    trial.figures.more["lost, MB"] = (had - trial.had(leecher)) / MEGABYTE
 
 
 def deselect_and_select(trial: Trial) -> None:
