@@ -163,7 +163,7 @@ void PiecePick::came(Worker& worker, tr_peer_event const& event)
         auto const took = worker.heard_at - worker.probed_at;
         auto const least = worker.least_msec == 0U ? std::min(75U + 2U * took, MostMsec) : worker.least_msec;
         auto const msec = worker.probed_at < worker.rate.begin + RampMsec ? 0U : std::max(took, worker.msec - worker.msec / 32U);
-        worker.ramp = took <= least / 2U ? std::min(worker.ramp * 2U, Deepest) : took <= least ? worker.ramp : worker.ramp / 2U;
+        worker.ramp = took <= least ? std::min(worker.ramp * 2U, Deepest) : worker.ramp / 2U;
         worker.msec = std::clamp(msec, least, MostMsec);
         worker.least_msec = least;
         worker.probe.reset();
