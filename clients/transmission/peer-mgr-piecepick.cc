@@ -30,14 +30,13 @@ void PiecePick::open(tr_torrent& tor)
 {
     tor_ = &tor;
     workers_.resize(std::min(tor.peer_limit() + tor.webseed_count(), size_t{ 1023U })); // 1,024 with the disk
-    auto const digests = std::vector<uint8_t>(tor.piece_count() * sizeof(tr_sha1_digest_t)); // transmission compares them itself
+    auto const sums = std::vector<uint8_t>(tor.piece_count() * sizeof(tr_sha1_digest_t)); // transmission compares them itself
     options_.workers = std::size(workers_) + 1U;
     options_.deepest = Deepest;
     options_.rush = LeastDepth;
     piecepick_picker* picker = nullptr;
-    auto const* const data = std::data(digests);
-    serves_ = piecepick_open_parts(&picker, tor.piece_size(), tor.total_size(), data, std::size(digests), &options_) == PIECEPICK_OK &&
-        tor.piece_size() % tr_block_info::BlockSize == 0U; // else blocks cross the borders of pieces
+    serves_ = piecepick_open_parts(&picker, tor.piece_size(), tor.total_size(), std::data(sums), std::size(sums), &options_) ==
+            PIECEPICK_OK && tor.piece_size() % tr_block_info::BlockSize == 0U; // else blocks cross the borders of pieces
     picker_.reset(picker, [](auto* closed) { piecepick_close(&closed); });
     restore();
     set_levels();

@@ -75,8 +75,8 @@ private:
     std::array<libtransmission::ObserverTag, 4U> tags_;
 };
 
-// The hooks of peer-mgr.cc, which are nothing without the library.
-#define tr_piecepick(wishes, call) (wishes ? wishes->piecepick.call : void())
+// What is put into peer-mgr.cc is nothing without the library.
+#define tr_piecepick(code) code
 #else
-#define tr_piecepick(wishes, call)
+#define tr_piecepick(code)
 #endif
