@@ -3,9 +3,10 @@
 
 usage: scenes.py BUILDS [--times N] [--work FOLDER] [--json FILE] [NAME ..]        (--list names the scenes)
 
-BUILDS is the folder that build.sh filled. Each scene is run by both builds in alternation, N times (5), or the scenes that are named. Each content
-is compared by SHA-1. A line for each build has the medians: seconds from the first byte on, megabytes that were resident at most, seconds of
-processor time, megabytes that came twice, and how many copies left the seeders. Nothing leaves the machine. It has to be run as root.
+BUILDS is the folder that build.sh filled. Each scene is run by both builds in alternation, N times (5), or the scenes that are named. Who is first
+in one round is last in the next, since the disk is busier then. Each content is compared by SHA-1. A line for each build has the medians: seconds
+from the first byte on, megabytes that were resident at most, seconds of processor time, megabytes that came twice, and how many copies left the
+seeders. Nothing leaves the machine. It has to be run as root.
 """
 
 from __future__ import annotations
@@ -141,7 +142,7 @@ def run_scene(name: str, arguments: argparse.Namespace, work: Path) -> Iterator[
     programs = {who: (arguments.builds / path).resolve() for who, path in DAEMONS.items()}
     store = Store(scene.content, work / name, len(scene.hosts))
     for number in range(arguments.times):
-        for who in scene.programs:
+        for who in scene.programs if number % 2 == 0 else scene.programs[::-1]:
             figures = run_once(name, store, programs, who, work / f"{name}-{who}-{number}")
             print(f"  {line_of(name, who, [figures], 1)}", flush=True)
             yield who, figures
