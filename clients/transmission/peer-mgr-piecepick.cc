@@ -30,13 +30,16 @@ void PiecePick::open(tr_torrent& tor)
 {
     tor_ = &tor;
     workers_.resize(std::min(tor.peer_limit() + tor.webseed_count(), size_t{ 1023U })); // 1,024 with the disk
-    auto const sums = std::vector<uint8_t>(tor.piece_count() * sizeof(tr_sha1_digest_t)); // transmission compares them itself
+    auto digests = std::vector<tr_sha1_digest_t>(tor.piece_count());
+    std::generate(std::begin(digests), std::end(digests), [&tor, piece = 0U]() mutable { return tor.piece_hash(piece++); });
     options_.workers = std::size(workers_) + 1U;
-    options_.deepest = Deepest;
+    options_.deepest = std::clamp(uint32_t(tor.block_count() / 16U), 128U, Deepest);
     options_.rush = LeastDepth;
     piecepick_picker* picker = nullptr;
-    serves_ = piecepick_open_parts(&picker, tor.piece_size(), tor.total_size(), std::data(sums), std::size(sums), &options_) ==
-            PIECEPICK_OK && tor.piece_size() % tr_block_info::BlockSize == 0U; // else blocks cross the borders of pieces
+    auto const* const data = reinterpret_cast<uint8_t const*>(std::data(digests));
+    auto const size = std::size(digests) * sizeof(tr_sha1_digest_t);
+    serves_ = piecepick_open_parts(&picker, tor.piece_size(), tor.total_size(), data, size, &options_) == PIECEPICK_OK &&
+        tor.piece_size() % tr_block_info::BlockSize == 0U; // else blocks cross the borders of pieces
     picker_.reset(picker, [](auto* closed) { piecepick_close(&closed); });
     restore();
     set_levels();
@@ -145,8 +148,8 @@ void PiecePick::told(tr_peer& peer, tr_peer_event const& event)
         return;
     }
     // A peer is asked again once a quarter of what was in flight has come, while transmission itself asks twice a second.
-    auto* const msgs = workers_[worker].msgs;
-    if (msgs != nullptr && msgs->active_requests.count() <= workers_[worker].asks_at && !msgs->peer_info->is_banned())
+    if (auto* const msgs = workers_[worker].msgs;
+        msgs != nullptr && msgs->active_requests.count() <= workers_[worker].asks_at && !msgs->peer_info->is_banned())
     {
         msgs->pulse();
     }
@@ -162,7 +165,7 @@ void PiecePick::came(Worker& worker, tr_peer_event const& event)
         auto const took = worker.heard_at - worker.probed_at;
         auto const least = worker.least_msec == 0U ? std::min(75U + 2U * took, MostMsec) : worker.least_msec;
         auto const msec = worker.probed_at < worker.rate.begin + RampMsec ? 0U : std::max(took, worker.msec - worker.msec / 32U);
-        worker.ramp = took <= least ? std::min(worker.ramp * 2U, Deepest) : worker.ramp / 2U;
+        worker.ramp = took <= least ? std::min(worker.ramp * 2U, options_.deepest) : worker.ramp / 2U;
         worker.msec = std::clamp(msec, least, MostMsec);
         worker.least_msec = least;
         worker.probe.reset();
@@ -213,8 +216,8 @@ std::optional<std::vector<tr_block_span_t>> PiecePick::next(size_t n_wanted_bloc
     worker.rate.begin = worker.rate.is_begun ? worker.rate.begin : now;
     auto const by_rate = piecepick_depth_by_rate_follow(&worker.rate, now) * worker.msec / 1000U;
     auto const is_ramp = now - worker.rate.begin < RampMsec;
-    auto const least = worker.msgs == nullptr ? Deepest : is_ramp ? std::max(worker.ramp, LeastDepth) : LeastDepth;
-    auto const most = std::min<uint64_t>(n_active + n_wanted_blocks, worker.is_bad ? LeastDepth : Deepest);
+    auto const least = worker.msgs == nullptr ? options_.deepest : is_ramp ? std::max(worker.ramp, LeastDepth) : LeastDepth;
+    auto const most = std::min<uint64_t>(n_active + n_wanted_blocks, worker.is_bad ? LeastDepth : options_.deepest);
     call(piecepick_depth, asked_, uint32_t(std::min(most, std::max<uint64_t>(by_rate, least))));
     call(piecepick_unchoke, asked_);
     auto spans = ask();
@@ -260,12 +263,9 @@ std::vector<tr_block_span_t> PiecePick::ask()
 // Which requests are late; and which weren't sent, since a web seed sends less than was chosen.
 void PiecePick::look_over(uint64_t now)
 {
-    if (now - looked_at_ < 1000U) // msec
-    {
-        return;
-    }
-    looked_at_ = now;
-    for (uint32_t number = 0U; number < std::size(workers_); ++number)
+    auto const is_due = now - looked_at_ >= 1000U; // msec
+    looked_at_ = is_due ? now : looked_at_;
+    for (uint32_t number = 0U; is_due && number < std::size(workers_); ++number)
     {
         auto const is_silent = now - workers_[number].heard_at >= LateMsec;
         for (auto place = call<uint32_t>(piecepick_outstanding, number); place > 0U; --place)
