@@ -67,8 +67,12 @@ inline auto constexpr AfterUnwanted = ReadState::Now;
 #else
 inline auto constexpr AfterUnwanted = ReadState::Err;
 #endif
-
 """
+TOLD = "        tr_piecepick(if (s->wishlist) { s->wishlist->piecepick.told(*PEER, event); });\n"
+RECHOKE = (
+    "    tr_piecepick(libtransmission::ObserverTag wanted_ = tor->priority_changed_.observe([this](auto&&...) "
+    "{ if (is_running) { on_torrent_started(); } });)\n"
+)
 CHANGED = "            priority_changed_.emit(this, files, n_files, TR_PRI_NORMAL); // no other event tells of wanted files\n"
 
 EDITS = (
@@ -81,11 +85,12 @@ EDITS = (
     behind(f"{WISHLIST}.h", r"libtransmission/observable\.h", '#include "libtransmission/peer-mgr-piecepick.h"\n'),
     before(f"{WISHLIST}.h", r"private:\n +class Impl;", guarded("    PiecePick piecepick;\n")),
     before(f"{WISHLIST}.cc", r"return impl_->next\(", guarded(ASK)),
-    fills(MANAGER, r"void remove_peer\(tr_peerMsgs", "        tr_piecepick_left(wishlist, *peer);\n"),
-    fills(MANAGER, r"msgs->swarm == s\)", "        tr_piecepick_told(s->wishlist, *msgs, event);\n"),
-    fills(MANAGER, r"static void peer_callback_webseed\(", "        tr_piecepick_told(s->wishlist, *peer, event);\n"),
+    fills(MANAGER, r"void remove_peer\(tr_peerMsgs", "        tr_piecepick(if (wishlist) { wishlist->piecepick.left(*peer); });\n"),
+    fills(MANAGER, r"msgs->swarm == s\)", TOLD.replace("PEER", "msgs")),
+    fills(MANAGER, r"static void peer_callback_webseed\(", TOLD.replace("PEER", "peer")),
+    fills(MANAGER, r"ObserverTag, 8> const tags_;", RECHOKE),
     fills(MANAGER, r"GetNextRequests\(\) is called", ""),
-    before(MANAGER, r"return swarm\.wishlist->next\(", "    tr_piecepick_ask_for(swarm, *peer);\n"),
+    before(MANAGER, r"return swarm\.wishlist->next\(", "    tr_piecepick(swarm.wishlist->piecepick.ask_for(*swarm.tor, swarm.peers, *peer));\n"),
     Edit(MESSAGES, r"got unrequested block[^\n]*\n[^\n]*(ReadState::Err)", "AfterUnwanted"),
     Edit(MESSAGES, r"got completed block[^\n]*\n[^\n]*(ReadState::Err)", "AfterUnwanted"),
     behind(f"{LIBRARY}/peer-msgs.h", r"^#include \"libtransmission/peer-common\.h\"", '#include "libtransmission/peer-io.h" // for ReadState\n'),

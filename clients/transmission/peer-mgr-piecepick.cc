@@ -12,12 +12,11 @@
 
 namespace
 {
-auto constexpr BlockSize = tr_block_info::BlockSize;
-auto constexpr Deepest = uint32_t{ 2000U }; // requests in flight at a peer
-auto constexpr LeastShare = uint32_t{ 4U };
+auto constexpr Deepest = uint32_t{ 800U }; // requests in flight at a peer
+auto constexpr LeastDepth = uint32_t{ 4U };
 auto constexpr LateMsec = uint64_t{ 10000U }; // a peer that sends no block for so long is late with all requests
-auto constexpr RampMsec = uint64_t{ 5000U }; // so long a peer has all requests that are wanted, and then some for 1.5 seconds
-auto constexpr LookMsec = uint64_t{ 1000U };
+auto constexpr MostMsec = uint64_t{ 1500U }; // requests of so long are in flight at most
+auto constexpr RampMsec = uint64_t{ 2000U }; // so long the rate says too little
 } // namespace
 
 // Where there is no such peer, it is the number of the disk.
@@ -27,32 +26,25 @@ uint32_t PiecePick::find(tr_peer const* peer) const
     return std::distance(std::begin(workers_), it);
 }
 
-bool PiecePick::is_active(uint32_t worker, piecepick_answer const& request) const
-{
-    return workers_[worker].peer->active_requests.test(tor_->piece_loc(request.piece, request.begin).block);
-}
-
 void PiecePick::open(tr_torrent& tor)
 {
     tor_ = &tor;
     workers_.resize(std::min(tor.peer_limit() + tor.webseed_count(), size_t{ 1023U })); // 1,024 with the disk
-    auto digests = std::vector<tr_sha1_digest_t>{};
-    for (tr_piece_index_t piece = 0U; piece < tor.piece_count(); ++piece)
-    {
-        digests.push_back(tor.piece_hash(piece));
-    }
+    auto digests = std::vector<tr_sha1_digest_t>(tor.piece_count());
+    std::generate(std::begin(digests), std::end(digests), [&tor, piece = 0U]() mutable { return tor.piece_hash(piece++); });
     options_.workers = std::size(workers_) + 1U;
-    options_.deepest = Deepest;
+    options_.deepest = std::clamp(uint32_t(tor.block_count() / 16U), 128U, Deepest);
+    options_.rush = LeastDepth;
     piecepick_picker* picker = nullptr;
     auto const* const data = reinterpret_cast<uint8_t const*>(std::data(digests));
     auto const size = std::size(digests) * sizeof(tr_sha1_digest_t);
-    serves_ = piecepick_open_parts(&picker, tor.piece_size(), tor.total_size(), data, size, &options_) == PIECEPICK_OK;
+    serves_ = piecepick_open_parts(&picker, tor.piece_size(), tor.total_size(), data, size, &options_) == PIECEPICK_OK &&
+        tor.piece_size() % tr_block_info::BlockSize == 0U; // else blocks cross the borders of pieces
     picker_.reset(picker, [](auto* closed) { piecepick_close(&closed); });
-    serves_ = serves_ && tor.piece_size() % BlockSize == 0U; // else blocks cross the borders of pieces
     restore();
     set_levels();
-    tags_ = { tor.got_bad_piece_.observe([this](tr_torrent*, tr_piece_index_t piece) { verdict(piece, false); }),
-              tor.piece_completed_.observe([this](tr_torrent*, tr_piece_index_t piece) { verdict(piece, true); }),
+    tags_ = { tor.got_bad_piece_.observe([this](auto*, auto piece) { verdict(piece, false); }),
+              tor.piece_completed_.observe([this](auto*, auto piece) { verdict(piece, true); }),
               tor.priority_changed_.observe([this](auto*, auto const*, auto, auto) { set_levels(); }),
               tor.sequential_download_changed_.observe([this](tr_torrent*, bool) { set_levels(); }) };
 }
@@ -66,9 +58,8 @@ void PiecePick::restore()
         if (tor_->has_piece(piece))
         {
             call(piecepick_resume, disk, piece, 1U);
-            continue;
         }
-        for (auto [block, end] = tor_->block_span_for_piece(piece); block < end; ++block)
+        for (auto [block, end] = tor_->block_span_for_piece(piece); block < end && !tor_->has_piece(piece); ++block)
         {
             if (tor_->has_block(block))
             {
@@ -76,19 +67,17 @@ void PiecePick::restore()
             }
         }
     }
-    call(piecepick_leave, disk);
 }
 
 void PiecePick::set_levels()
 {
     auto levels = std::vector<uint8_t>(tor_->piece_count());
-    auto const is_in_order = tor_->is_sequential_download();
     for (tr_piece_index_t piece = 0U; piece < std::size(levels); ++piece)
     {
         levels[piece] = tor_->piece_is_wanted(piece) ? 4U + tor_->piece_priority(piece) : 0U;
     }
     call(piecepick_set_levels, std::data(levels), std::size(levels));
-    call(piecepick_set_in_order, is_in_order ? 1U : 0U);
+    call(piecepick_set_in_order, tor_->is_sequential_download() ? 1U : 0U);
 }
 
 void PiecePick::join(tr_peer& peer)
@@ -99,7 +88,11 @@ void PiecePick::join(tr_peer& peer)
     if (serves_)
     {
         workers_[worker].peer = &peer;
+        workers_[worker].msgs = dynamic_cast<tr_peerMsgs*>(&peer);
         piecepick_depth_by_rate_begin(&workers_[worker].rate, &options_, tr_time_msec());
+        workers_[worker].rate.deepest = 4096U; // what comes in a second may be more than is in flight
+        call(piecepick_alone, worker, 1U);
+        is_alone_ = true;
         show(worker);
     }
 }
@@ -125,7 +118,6 @@ void PiecePick::left(tr_peer const& peer)
 
 void PiecePick::told(tr_peer& peer, tr_peer_event const& event)
 {
-    using Type = tr_peer_event::Type;
     auto const worker = find(&peer);
     if (worker == std::size(workers_))
     {
@@ -134,32 +126,65 @@ void PiecePick::told(tr_peer& peer, tr_peer_event const& event)
     workers_[worker].idle_at.reset();
     switch (event.type)
     {
-    case Type::ClientGotHave:
+    case tr_peer_event::Type::ClientGotHave:
         call(piecepick_have, worker, event.pieceIndex);
         break;
-    case Type::ClientGotHaveAll:
-    case Type::ClientGotBitfield:
+    case tr_peer_event::Type::ClientGotHaveAll:
+    case tr_peer_event::Type::ClientGotBitfield:
         show(worker);
         break;
-    case Type::ClientGotChoke:
+    case tr_peer_event::Type::ClientGotChoke:
         call(piecepick_choke, worker);
         break;
-    case Type::ClientGotRej:
-    case Type::ClientSentCancel:
+    case tr_peer_event::Type::ClientGotRej:
+    case tr_peer_event::Type::ClientSentCancel:
         call(piecepick_release, worker, event.pieceIndex, event.offset);
-        break;
-    case Type::ClientGotBlock:
-        workers_[worker].heard_at = tr_time_msec();
-        piecepick_depth_by_rate_came(&workers_[worker].rate, event.length, workers_[worker].heard_at);
+        return;
+    case tr_peer_event::Type::ClientGotBlock:
         call(piecepick_received, worker, event.pieceIndex, event.offset, event.length);
+        came(workers_[worker], event);
         break;
     default:
-        break;
+        return;
+    }
+    // A peer is asked again once a quarter of what was in flight has come, while transmission itself asks twice a second.
+    if (auto* const msgs = workers_[worker].msgs;
+        msgs != nullptr && msgs->active_requests.count() <= workers_[worker].asks_at && !msgs->peer_info->is_banned())
+    {
+        msgs->pulse();
     }
 }
 
+// The probe was asked for behind most of what was in flight. Where it takes longer than all of that may, more has to be.
+void PiecePick::came(Worker& worker, tr_peer_event const& event)
+{
+    worker.heard_at = tr_time_msec();
+    piecepick_depth_by_rate_came(&worker.rate, event.length, worker.heard_at);
+    if (worker.probe == tor_->piece_loc(event.pieceIndex, event.offset).block)
+    {
+        auto const took = worker.heard_at - worker.probed_at;
+        auto const least = worker.least_msec == 0U ? std::min(75U + 2U * took, MostMsec) : worker.least_msec;
+        auto const msec = worker.probed_at < worker.rate.begin + RampMsec ? 0U : std::max(took, worker.msec - worker.msec / 32U);
+        worker.ramp = took <= least ? std::min(worker.ramp * 2U, options_.deepest) : worker.ramp / 2U;
+        worker.msec = std::clamp(msec, least, MostMsec);
+        worker.least_msec = least;
+        worker.probe.reset();
+    }
+}
+
+// A peer has pieces of its own until one passes, and few requests once one failed. So nobody else gets strikes for its bytes.
 void PiecePick::verdict(tr_piece_index_t piece, bool passed)
 {
+    for (auto [block, end] = tor_->block_span_for_piece(piece); block < end; --end)
+    {
+        auto const sender = call<uint32_t>(piecepick_sender, piece, end - block - 1U);
+        call(piecepick_alone, sender, passed ? 0U : 1U);
+        if (sender < std::size(workers_))
+        {
+            workers_[sender].is_bad = !passed;
+        }
+    }
+    is_alone_ = is_alone_ || !passed;
     call(piecepick_verdict, piece, passed ? 1U : 0U);
 }
 
@@ -179,28 +204,37 @@ void PiecePick::ask_for(tr_torrent& tor, std::vector<tr_peerMsgs*> const& peers,
 
 std::optional<std::vector<tr_block_span_t>> PiecePick::next(size_t n_wanted_blocks)
 {
+    auto const now = tr_time_msec();
+    look_over(now);
     if (!serves_)
     {
         return {};
     }
     auto& worker = workers_[asked_];
-    auto const now = tr_time_msec();
     auto const n_active = call<uint32_t>(piecepick_outstanding, asked_);
     worker.heard_at = n_active == 0U ? now : worker.heard_at;
     worker.rate.begin = worker.rate.is_begun ? worker.rate.begin : now;
-    auto const by_rate = piecepick_depth_by_rate_follow(&worker.rate, now);
-    look_over(now, is_ending_ && n_active < by_rate && now - shared_at_ >= LookMsec / 4U);
-    auto const depth = now - worker.rate.begin < RampMsec ? Deepest : by_rate * 3U / 2U;
-    call(piecepick_depth, asked_, std::min({ n_active + uint32_t(n_wanted_blocks), depth, Deepest }));
+    auto const by_rate = piecepick_depth_by_rate_follow(&worker.rate, now) * worker.msec / 1000U;
+    auto const is_ramp = now - worker.rate.begin < RampMsec;
+    auto const least = worker.msgs == nullptr ? options_.deepest : is_ramp ? std::max(worker.ramp, LeastDepth) : LeastDepth;
+    auto const most = std::min<uint64_t>(n_active + n_wanted_blocks, worker.is_bad ? LeastDepth : options_.deepest);
+    call(piecepick_depth, asked_, uint32_t(std::min(most, std::max<uint64_t>(by_rate, least))));
     call(piecepick_unchoke, asked_);
-    return ask(n_wanted_blocks);
+    auto spans = ask();
+    worker.asks_at = call<uint32_t>(piecepick_outstanding, asked_) * (is_ramp ? 7U : 6U) / 8U;
+    if (!std::empty(spans) && (!worker.probe || now - worker.probed_at > 2U * MostMsec))
+    {
+        worker.probe = spans.front().begin;
+        worker.probed_at = now;
+    }
+    return spans;
 }
 
-std::vector<tr_block_span_t> PiecePick::ask(size_t n_wanted_blocks)
+std::vector<tr_block_span_t> PiecePick::ask()
 {
     auto spans = std::vector<tr_block_span_t>{};
     auto& worker = workers_[asked_];
-    for (auto is_idle = worker.idle_at == call<uint64_t>(piecepick_epoch); !is_idle && std::size(spans) < n_wanted_blocks;)
+    for (auto is_idle = worker.idle_at == call<uint64_t>(piecepick_epoch); !is_idle;)
     {
         auto const answer = call(piecepick_next, asked_, salter_());
         auto const block = tor_->piece_loc(answer.piece, answer.begin).block;
@@ -210,67 +244,37 @@ std::vector<tr_block_span_t> PiecePick::ask(size_t n_wanted_blocks)
         }
         else if (answer.kind != PIECEPICK_K_REQUEST)
         {
-            is_idle = true;
+            is_idle = answer.kind != PIECEPICK_K_IDLE || !is_alone_;
             worker.idle_at = call<uint64_t>(piecepick_epoch);
-            is_ending_ = is_ending_ || answer.kind == PIECEPICK_K_IDLE;
+            for (uint32_t number = 0U; !is_idle && number < std::size(workers_); ++number)
+            {
+                call(piecepick_alone, number, 0U); // the last pieces are shared
+            }
+            is_alone_ = is_alone_ && is_idle;
         }
-        else if (!is_active(asked_, answer)) // else it was in flight before the picker was
+        else if (!worker.peer->active_requests.test(block)) // else it was in flight before the picker was
         {
             spans.push_back({ block, block + 1U });
-            auto const rule = call<uint32_t>(piecepick_rule, answer.piece, answer.begin / BlockSize);
-            is_ending_ = rule >= PIECEPICK_RULE_ENDGAME;
-            if (is_ending_)
-            {
-                call(piecepick_depth, asked_, rule == PIECEPICK_RULE_LATE ? worker.fair_share : LeastShare);
-            }
         }
     }
     return spans;
 }
 
-// Once nothing else is left to ask for, a peer keeps what it will have sent when all could be there. Cancels would come too late
-// for the rest, since seeders hold long queues. So it is told late, and one that has nothing else to send may be asked for it.
-void PiecePick::share_out(uint64_t now)
-{
-    auto all = uint64_t{ 1U };
-    for (auto& worker : workers_)
-    {
-        piecepick_depth_by_rate_turn(&worker.rate, now);
-        worker.fair_share = piecepick_depth_by_rate_blocks(&worker.rate, 8U);
-        all += worker.fair_share;
-    }
-    auto const n_missing = tor_->left_until_done() / BlockSize + 1U;
-    for (auto& worker : workers_)
-    {
-        worker.fair_share = std::min<uint64_t>(worker.fair_share * n_missing / all + LeastShare, Deepest);
-    }
-}
-
 // Which requests are late; and which weren't sent, since a web seed sends less than was chosen.
-void PiecePick::look_over(uint64_t now, bool shares)
+void PiecePick::look_over(uint64_t now)
 {
-    if (!shares && now - looked_at_ < LookMsec)
+    auto const is_due = now - looked_at_ >= 1000U; // msec
+    looked_at_ = is_due ? now : looked_at_;
+    for (uint32_t number = 0U; is_due && number < std::size(workers_); ++number)
     {
-        return;
-    }
-    looked_at_ = now;
-    shared_at_ = shares ? now : shared_at_;
-    share_out(now);
-    for (uint32_t number = 0U; number < std::size(workers_); ++number)
-    {
-        auto const& worker = workers_[number];
-        auto const is_silent = now - worker.heard_at >= LateMsec;
-        auto const keeps = shares ? worker.fair_share + worker.fair_share / 4U : Deepest;
+        auto const is_silent = now - workers_[number].heard_at >= LateMsec;
         for (auto place = call<uint32_t>(piecepick_outstanding, number); place > 0U; --place)
         {
             auto const request = call(piecepick_outstanding_at, number, place - 1U);
-            if (!is_active(number, request))
+            auto const block = tor_->piece_loc(request.piece, request.begin).block;
+            if (auto const is_sent = workers_[number].peer->active_requests.test(block); !is_sent || is_silent)
             {
-                call(piecepick_release, number, request.piece, request.begin);
-            }
-            else if (is_silent || place > keeps)
-            {
-                call(piecepick_late, number, request.piece, request.begin);
+                call(is_sent ? piecepick_late : piecepick_release, number, request.piece, request.begin);
             }
         }
     }

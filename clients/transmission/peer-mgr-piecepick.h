@@ -34,10 +34,17 @@ private:
     struct Worker
     {
         tr_peer* peer = nullptr;
+        tr_peerMsgs* msgs = nullptr; // the same one, or nothing where it is a web seed
         uint64_t heard_at = 0U; // msec: when it sent a block, or was asked with none in flight
         std::optional<uint64_t> idle_at; // the epoch in which there was nothing to ask for
         piecepick_depth_by_rate rate = {};
-        uint32_t fair_share = 0U; // of the missing blocks, by its rate among the others
+        uint32_t asks_at = 0U; // with so many in flight it is asked again
+        bool is_bad = false; // a piece that it had a part in failed, and none has passed since
+        uint32_t ramp = 32U; // the depth until the rate is known
+        uint64_t msec = 500U; // requests of so long are in flight
+        uint64_t least_msec = 0U; // by how long the first one took
+        std::optional<tr_block_index_t> probe; // a request whose time is taken
+        uint64_t probed_at = 0U;
     };
     template<typename T = piecepick_answer, typename Function, typename... Args>
     T call(Function function, Args... args)
@@ -47,16 +54,15 @@ private:
         return answer;
     }
     [[nodiscard]] uint32_t find(tr_peer const* peer) const;
-    [[nodiscard]] bool is_active(uint32_t worker, piecepick_answer const& request) const;
     void open(tr_torrent& tor);
     void restore();
     void set_levels();
     void join(tr_peer& peer);
     void show(uint32_t worker);
+    void came(Worker& worker, tr_peer_event const& event);
     void verdict(tr_piece_index_t piece, bool passed);
-    void look_over(uint64_t now, bool shares);
-    void share_out(uint64_t now);
-    [[nodiscard]] std::vector<tr_block_span_t> ask(size_t n_wanted_blocks);
+    void look_over(uint64_t now);
+    [[nodiscard]] std::vector<tr_block_span_t> ask();
     tr_torrent* tor_ = nullptr;
     std::shared_ptr<piecepick_picker> picker_;
     piecepick_options options_ = PIECEPICK_OPTIONS;
@@ -64,18 +70,13 @@ private:
     tr_salt_shaker<uint64_t, 64U> salter_;
     uint32_t asked_ = 0U;
     uint64_t looked_at_ = 0U;
-    uint64_t shared_at_ = 0U;
-    bool is_ending_ = false; // a peer had nothing left to be asked for that no other one is asked for
+    bool is_alone_ = false; // some peers have pieces of their own
     bool serves_ = false;
     std::array<libtransmission::ObserverTag, 4U> tags_;
 };
 
-// The hooks of peer-mgr.cc, which are nothing without the library.
-#define tr_piecepick_told(wishes, peer, event) (wishes ? wishes->piecepick.told(peer, event) : void())
-#define tr_piecepick_left(wishes, peer) (wishes ? wishes->piecepick.left(peer) : void())
-#define tr_piecepick_ask_for(swarm, peer) swarm.wishlist->piecepick.ask_for(*swarm.tor, swarm.peers, peer)
+// What is put into peer-mgr.cc is nothing without the library.
+#define tr_piecepick(code) code
 #else
-#define tr_piecepick_told(wishes, peer, event)
-#define tr_piecepick_left(wishes, peer)
-#define tr_piecepick_ask_for(swarm, peer)
+#define tr_piecepick(code)
 #endif

@@ -3,9 +3,10 @@
 
 usage: scenes.py BUILDS [--times N] [--work FOLDER] [--json FILE] [NAME ..]        (--list names the scenes)
 
-BUILDS is the folder that build.sh filled. Each scene is run by both builds in alternation, N times (5), or the scenes that are named. Each content
-is compared by SHA-1. A line for each build has the medians: seconds from the first byte on, megabytes that were resident at most, seconds of
-processor time, megabytes that came twice, and how many copies left the seeders. Nothing leaves the machine. It has to be run as root.
+BUILDS is the folder that build.sh filled. Each scene is run by both builds in alternation, N times (5), or the scenes that are named. Who is first
+in one round is last in the next, since the disk is busier then. Each content is compared by SHA-1. A line for each build has the medians: seconds
+from the first byte on, megabytes that were resident at most, seconds of processor time, megabytes that came twice, and how many copies left the
+seeders. Nothing leaves the machine. It has to be run as root.
 """
 
 from __future__ import annotations
@@ -22,6 +23,7 @@ from collections.abc import Iterator
 from dataclasses import asdict
 from pathlib import Path
 
+from daemon import READY
 from network import Line
 from trial import MEGABYTE, Content, Figures, Host, Scene, Store, Trial, trial_of
 
@@ -40,17 +42,30 @@ FILES = Content((40 * MB, 40 * MB, 40 * MB))
 
 def stop_and_start(trial: Trial) -> None:
     """The download is stopped at its half, and started again."""
+    leecher = trial.leechers[0]
     trial.waits_for(0.5)
-    trial.leechers[0].call("torrent-stop", ids=[1])
+    leecher.call("torrent-stop", ids=[1])
+    had = trial.had(leecher)
     time.sleep(2.0)
-    trial.leechers[0].call("torrent-start", ids=[1])
+    leecher.call("torrent-start", ids=[1])
+    tell_lost(trial, had)
 
 
 def kill_and_start(trial: Trial) -> None:
     """The leecher is killed at its half, and started again."""
+    leecher = trial.leechers[0]
     trial.waits_for(0.5)
-    trial.leechers[0].stop(signal.SIGKILL)
-    trial.leechers[0].start(trial.scene.settings)
+    had = trial.had(leecher)
+    leecher.stop(signal.SIGKILL)
+    leecher.start(trial.scene.settings)
+    tell_lost(trial, had)
+
+
+def tell_lost(trial: Trial, had: int) -> None:
+    """How much of what the first leecher had it doesn't know of any more. All of that comes twice, whatever the picker does."""
+    leecher = trial.leechers[0]
+    trial.until(lambda: "haveValid" in leecher.fields("haveValid"), READY)
+    trial.figures.more["lost, MB"] = (had - trial.had(leecher)) / MEGABYTE
 
 
 def deselect_and_select(trial: Trial) -> None:
@@ -127,7 +142,7 @@ def run_scene(name: str, arguments: argparse.Namespace, work: Path) -> Iterator[
     programs = {who: (arguments.builds / path).resolve() for who, path in DAEMONS.items()}
     store = Store(scene.content, work / name, len(scene.hosts))
     for number in range(arguments.times):
-        for who in scene.programs:
+        for who in scene.programs if number % 2 == 0 else scene.programs[::-1]:
             figures = run_once(name, store, programs, who, work / f"{name}-{who}-{number}")
             print(f"  {line_of(name, who, [figures], 1)}", flush=True)
             yield who, figures

@@ -92,6 +92,7 @@ public:
                 blocks.push_back(block);
                 active_requests.set(block);
             }
+            pick_.told(*this, tr_peer_event::SentRequest(tor_.block_info(), span));
         }
         return blocks;
     }
@@ -187,6 +188,23 @@ void test_verdicts(tr_torrent& tor)
     check(*std::rbegin(again) == 2U * BlocksPerPiece - 1U, "a piece that passed isn't");
 }
 
+void test_alone(tr_torrent& tor)
+{
+    auto pick = PiecePick{};
+    auto one = Peer{ tor, pick };
+    auto two = Peer{ tor, pick };
+    auto const piece = one.ask(tor, 1U).front() / BlocksPerPiece;
+    check(two.ask(tor, 1U).front() / BlocksPerPiece != piece, "a new peer has a piece of its own");
+
+    auto const rest = one.ask(tor, BlocksPerPiece - 1U);
+    check(rest.front() / BlocksPerPiece == piece && rest.back() / BlocksPerPiece == piece, "and goes on with it");
+
+    (void)one.ask(tor, Blocks / 4U);
+    send_piece(tor, one, piece, false);
+    check(std::empty(one.ask(tor, Blocks)), "once its piece failed it is asked for no more while more than four are in flight");
+    check(!std::empty(two.ask(tor, 1U)), "and others aren't bound by that");
+}
+
 void test_choke(tr_torrent& tor)
 {
     auto pick = PiecePick{};
@@ -243,6 +261,7 @@ int main(int argc, char** argv)
     auto* const tor = torrent(session, BlocksPerPiece * tr_block_info::BlockSize);
     test_two_peers(*tor);
     test_verdicts(*tor);
+    test_alone(*tor);
     test_choke(*tor);
     test_choice(*tor);
     test_shows(*tor);

@@ -32,6 +32,7 @@ MEGABYTE = 1e6
 TRACKER = 6969  # its port
 CHUNK = 1 << 20
 LOOK = 0.1  # seconds between two looks at a leecher
+SEEDING = 6  # a status of transmission: the content was hashed
 SETTLE = 1.0  # seconds for what is still under way at the end
 FIELDS = ("leftUntilDone", "haveValid", "haveUnchecked", "sizeWhenDone")
 
@@ -225,6 +226,7 @@ class Trial:
             daemon.start(self.scene.settings if daemon in self.leechers else {})
             if daemon in self.seeds:
                 daemon.add(self.store.torrent)
+        self.until(self._are_seeding, self.scene.longest)
         for daemon in self.leechers:
             if self.scene.by_link:
                 daemon.call("torrent-add", filename=self.store.link_text())
@@ -236,6 +238,9 @@ class Trial:
         self.until(self._are_done, self.scene.longest)
         self._count()
         return self.figures
+
+    def _are_seeding(self) -> bool:
+        return all(daemon.fields("status")["status"] == SEEDING for daemon in self.seeds)
 
     def until(self, is_so: Callable[[], bool], longest: float) -> float:
         """Waits for something, and tells when it was so."""
