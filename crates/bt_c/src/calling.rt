@@ -69,7 +69,7 @@ impl Held {
         if worker >= self.engine.picker().workers() {
             return Err(Fault::Worker);
         }
-        if piece >= self.torrent.piece_count() {
+        if piece >= self.engine.picker().torrent().piece_count() {
             return Err(Fault::Piece);
         }
         Ok(self.engine.tell(alloc, worker, told)?)

@@ -62,17 +62,28 @@ impl<'a> Position<'a> {
     }
 
     /// Whether each block that endgame waits for is held or asked of somebody.
+    #[inline(always)]
     pub(crate) fn are_awaited_asked(&self) -> bool
         ensures { result ≡ each_block self.now.setting.torrent (λ b. not (awaited self.now.setting self.now.history b.piece)
             || held_or_asked self.now.setting self.now.history b) }
     {
-        self.attest();
         if self.are_wanted_asked() {
             return true;
         }
         if !self.waits_for_shown() {
             return false;
         }
+        self.are_shown_asked()
+    }
+
+    /// The same, where endgame waits only for pieces that a joined peer shows.
+    #[inline(never)] // by the usual rules it waits for all
+    fn are_shown_asked(&self) -> bool
+        requires { self.now.setting.shown ≡ true }
+        ensures { result ≡ each_block self.now.setting.torrent (λ b. not (awaited self.now.setting self.now.history b.piece)
+            || held_or_asked self.now.setting self.now.history b) }
+    {
+        self.attest();
         !self.is_open_shown() && !self.is_fresh_shown()
     }
 

@@ -172,7 +172,7 @@ impl<'a> Position<'a> {
     }
 
     /// Whether each lacking block that endgame waits for is asked for, and a wanted block is lacking.
-    #[inline(never)] // it is looked for at requests alone
+    #[inline(always)]
     pub fn is_endgame(&self) -> bool
         ensures { result ≡ endgame self.now.setting self.now.history }
     {

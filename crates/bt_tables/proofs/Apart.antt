@@ -15,6 +15,10 @@ use Rattle.bt_tables.specs.Standings.{shown_row, slot_of, place_in, place_of, st
 use Rattle.bt_tables.specs.declared.piece.Stage.{Stage}
 use Rattle.bt_tables.specs.declared.piece.Stage.TheVariants.{AskedOut, Open, Resting, Unbegun}
 use Rattle.bt_tables.specs.Apart.{AreApart}
+use Rattle.bt_tables.specs.declared.counts.Counts.{Counts}
+use Rattle.bt_tables.specs.declared.piece.Standing.{Standing}
+use Rattle.bt_tables.specs.Rows.{AreOf, amount_of}
+use Rattle.bt_tables.proofs.Rowed.{amount_is}
 use Rattle.bt_tables.proofs.Shelves.{can_file, files, same_length}
 use Rattle.bt_tables.proofs.Tabled.{edit_set, get_or_edit_same, get_or_table, length_table, table_from}
 use Rattle.bt_tables.specs.declared.piece.TheConstants.{CROWD, GROUPS, SPAN, UNBEGUN}
@@ -280,6 +284,18 @@ pub record IsChange (rows : List PieceState) (shown : List ℕ) (p : ℕ) (chang
   pub count : m ≡ at shown p
   pub before_is : before ≡ standing_of (shown_row m (piece_row rows p))
   pub after_is : after ≡ standing_of (shown_row m (changed_row change (piece_row rows p)))
+
+-- what the piece amounts to by its counts once it was changed
+pub amount_after : (rows now : List PieceState) (p n blocks : ℕ) (change : Change) (counts : Counts) (after : Standing) → p < length rows
+    → now ≡ edit rows p (changed_row change) → blocks ≡ length (piece_row rows p).blocks → AreOf counts (piece_row now p)
+    → after ≡ record { had = counts.had; level = counts.level; held = counts.held; touched = counts.touched; blocks = blocks; shown_by = n }
+    → amount_of after ≡ standing_of (shown_row n (piece_row now p))
+amount_after rows now p n blocks change counts after lp now_is long are is =
+    ap amount_of is
+    ∙ amount_is counts (piece_row now p) n blocks are
+    (long ∙ sym (ap (λ (l : List PieceState). length (piece_row l p).blocks) now_is
+    ∙ ap (λ (r : PieceState). length r.blocks) (edited_row rows p change lp)
+    ∙ same_length change (piece_row rows p)))
 
 pub is_change : (rows now : List PieceState) (shown : List ℕ) (p : ℕ) (change : Change) (m n : ℕ) (row new : PieceState) (before after : Amount)
     → p < length rows → p < length shown → m ≡ n → n ≡ get_or shown p n → row ≡ piece_row rows p → now ≡ edit rows p (changed_row change)

@@ -2,9 +2,9 @@
 use Rattle.std.proofs.Common.{◌≡◌, ℕ, ◌*◌, replicate, cond, ◌+◌, ◌<◌, ◌≤◌, ◌==◌, ◌≢◌, ◌^◌, Bool, true, false, List, length, get_or}
 use Rattle.std.proofs.Common.{set, refl, ap, sym, ◌∙◌, arith, length-set}
 use Rattle.std.specs.List.{count_by}
-use Rattle.std.specs.Prelude.{if◌then◌else◌}
+use Rattle.std.specs.Prelude.{if◌then◌else◌, nat_lt}
 use Rattle.std.proofs.Math.Nat.{min-le_left, min-le_right}
-use Rattle.std.proofs.lemmas.Bool.{eqb-true}
+use Rattle.std.proofs.lemmas.Bool.{eqb-true, lt-ltb, or_right}
 use Rattle.std.proofs.lemmas.List.{get_or-set_other, get_or-set_same, length-replicate}
 use Rattle.std.proofs.lemmas.List.Folds.{sum_by-replicate}
 use Rattle.std.proofs.lemmas.List.Sums.{sum_by-set, count_by-le-length, get_or-le-sum_by}
@@ -12,7 +12,7 @@ use mathlib.Core.Logic.{dite}
 use native.Mathlib.Decide.{ℕ_discrete}
 use Rattle.bt_tables.specs.declared.counts.Counts.{Counts}
 use Rattle.bt_tables.specs.Rows.{Keeps, no_counts, passed_to}
-use Rattle.bt_tables.specs.Tables.{CellState, empty_cell, one_if}
+use Rattle.bt_tables.specs.Tables.{CellState, empty_cell, one_if, one_more}
 use Rattle.bt_tables.specs.Standings.{AreTouched, is_held, is_touched}
 
 module _ (test : CellState → Bool) (cells : List CellState) (i : ℕ) (old new : CellState) (lt : i < length cells)
@@ -66,6 +66,13 @@ keeps_moved counts new cells i old cell lt read keeps held touched first = recor
   };
   passed = rw first (still_touched counts.first i cells cell lt keeps.passed);
 }
+
+-- one peer more that is asked leaves whether the block is held, and it is touched then
+pub more_held : (cell : CellState) → is_held (one_more cell) ≡ is_held cell
+more_held cell = refl
+
+pub more_touched : (cell : CellState) → is_touched (one_more cell) ≡ true
+more_touched cell = or_right (is_held cell) (nat_lt 0 (one_more cell).askers) (lt-ltb 0 (one_more cell).askers (omega arith))
 
 -- nothing is counted of a piece of which nothing is known
 pub keeps_none : (n : ℕ) → n < 2 ^ 32 → Keeps no_counts (replicate n empty_cell)

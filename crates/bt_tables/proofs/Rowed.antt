@@ -9,10 +9,10 @@ use Rattle.std.proofs.lemmas.List.{get_or-take, length-drop, length-map, length-
 use Rattle.bt_tables.specs.declared.cell.Cell.{Cell}
 use Rattle.bt_tables.specs.declared.counts.Counts.{Counts}
 use Rattle.bt_tables.specs.Floors.{is_fresh}
-use Rattle.bt_tables.specs.Rows.{AreKept, Keeps, amount_of, counts_at, is_fresh_by, no_counts, row_of, rows_of, said}
+use Rattle.bt_tables.specs.Rows.{AreKept, AreOf, Keeps, amount_of, counts_at, is_fresh_by, no_counts, row_of, rows_of, said}
 use Rattle.bt_tables.specs.Standings.{cell_kept, shown_row, standing_of}
 use Rattle.bt_tables.specs.Tables.{CellState, PieceState, edit, empty_cell, fresh_piece, piece_row}
-use Rattle.bt_tables.proofs.Tabled.{edit_read, edit_same, edit_set}
+use Rattle.bt_tables.proofs.Tabled.{edit_read, edit_same, edit_set, get_or_edit_same}
 
 -- the cells of piece p
 abbrev pub cells_at : ℕ → List Cell → ℕ → List CellState
@@ -138,6 +138,23 @@ is_row w cs xs rows p counts kept are lp read =
       keeps = rw (row, ← own) at (kept.each p within);
     }
 
+-- where the cell stands
+pub place_within : (w : ℕ) (cs : List Counts) (xs : List Cell) (rows : List PieceState) (p k : ℕ) → rows_of w cs xs ≡ rows → p < length rows
+    → k < length (piece_row rows p).blocks → p * w + k < length xs
+place_within w cs xs rows p k are lp lk =
+    let row = row_is w cs xs p (fresh_piece 0) (omega (arith, lp, ap length are, rows_length w cs xs)) in
+    in_cells w xs p k (subst (λ (r : PieceState). k < length r.blocks) (ap (λ (l : List PieceState). piece_row l p) (sym are) ∙ row) lk)
+
+-- and what is read there
+pub read_cell : (w : ℕ) (cs : List Counts) (xs : List Cell) (rows : List PieceState) (p k : ℕ) (cell : Cell) → rows_of w cs xs ≡ rows
+    → p < length rows → k < length (piece_row rows p).blocks → cell ≡ get_or xs (p * w + k) cell
+    → cell_kept cell ≡ get_or (piece_row rows p).blocks k empty_cell
+read_cell w cs xs rows p k cell are lp lk read =
+    let row : piece_row rows p ≡ row_of (counts_at cs p) (cells_at w xs p) = ap (λ (l : List PieceState). piece_row l p) (sym are)
+    ∙ row_is w cs xs p (fresh_piece 0) (omega (arith, lp, ap length are, rows_length w cs xs)) in
+    sym (ap (λ (r : PieceState). get_or r.blocks k empty_cell) row
+    ∙ cell_is w xs p k cell empty_cell (subst (λ (r : PieceState). k < length r.blocks) row lk) read)
+
 -- a row is edited
 pub row_edited : (rows : List PieceState) (p : ℕ) (change : PieceState → PieceState) (row : PieceState) → p < length rows
     → row ≡ change (piece_row rows p) → set rows p row ≡ edit rows p change
@@ -159,12 +176,14 @@ pub record IsCell (w : ℕ) (xs : List Cell) (p k : ℕ) (cell : Cell) : Type 0 
   pub read : get_or (cells_at w xs p) k empty_cell ≡ cell_kept cell
 
 pub is_cell : (w : ℕ) (cs : List Counts) (xs : List Cell) (rows : List PieceState) (p k : ℕ) (counts : Counts) (cell : Cell)
-    → IsRow w cs xs p counts → rows_of w cs xs ≡ rows → k < length (piece_row rows p).blocks → cell ≡ get_or xs (p * w + k) cell
-    → IsCell w xs p k cell
+    → IsRow w cs xs p counts → rows_of w cs xs ≡ rows → k < length (piece_row rows p).blocks
+    → cell_kept cell ≡ get_or (piece_row rows p).blocks k empty_cell → IsCell w xs p k cell
 is_cell w cs xs rows p k counts cell is are lk read =
-    let within : k < length (cells_at w xs p) = subst (λ (r : PieceState). k < length r.blocks)
-    (ap (λ (l : List PieceState). piece_row l p) (sym are) ∙ is.row) lk in
-    record { within = within; read = cell_is w xs p k cell empty_cell within read }
+    let row : piece_row rows p ≡ row_of counts (cells_at w xs p) = ap (λ (l : List PieceState). piece_row l p) (sym are) ∙ is.row in
+    record {
+      within = subst (λ (r : PieceState). k < length r.blocks) row lk;
+      read = sym (read ∙ ap (λ (r : PieceState). get_or r.blocks k empty_cell) row);
+    }
 
 -- a cell is edited by what was read of it
 pub cell_edited : (rows : List PieceState) (p k : ℕ) (change : CellState → CellState) (now old : CellState) → p < length rows
@@ -176,24 +195,70 @@ cell_edited rows p k change now old lp lk read is =
     (ap (λ (cells : List CellState). record row { blocks = cells })
     (ap (λ (cell : CellState). set row.blocks k cell) is ∙ edit_read row.blocks k change old empty_cell lk read))
 
+-- ---- a cell is put, with the counts that its piece has then
+
+module _ (w : ℕ) (cs : List Counts) (xs : List Cell) (rows : List PieceState) (p k : ℕ) (counts : Counts) (cell : Cell)
+    (are : rows_of w cs xs ≡ rows) (lp : p < length rows) (lk : k < length (piece_row rows p).blocks)
+  where
+    own : piece_row rows p ≡ row_of (counts_at cs p) (cells_at w xs p)
+    own = ap (λ (l : List PieceState). piece_row l p) (sym are) ∙ row_is w cs xs p (fresh_piece 0) within_counts where
+      within_counts : p < length cs
+      within_counts = omega (arith, lp, ap length are, rows_length w cs xs)
+
+    -- the row with the cell
+    abbrev now : PieceState
+    now = row_of counts (set (cells_at w xs p) k (cell_kept cell))
+
+    cells_put : rows_of w (set cs p counts) (set xs (p * w + k) cell) ≡ set (rows_of w cs xs) p now
+    cells_put =
+        rows_set w cs xs p k counts cell (omega (arith, lp, ap length are, rows_length w cs xs))
+        (in_width w xs p k (subst (λ (r : PieceState). k < length r.blocks) own lk))
+
+    pub rows_put : counts.had ≡ (piece_row rows p).had → counts.level ≡ (piece_row rows p).level
+        → rows_of w (set cs p counts) (set xs (p * w + k) cell) ≡ edit rows p (λ r. record r { blocks = set r.blocks k (cell_kept cell) })
+    rows_put had level =
+        cells_put
+        ∙ (ap (λ (l : List PieceState). set l p now) are
+        ∙ row_edited rows p (λ r. record r { blocks = set r.blocks k (cell_kept cell) }) now lp
+        (λ i. record {
+          had = had i;
+          level = level i;
+          availability = own_availability i;
+          blocks = set (sym (ap (λ (r : PieceState). r.blocks) own) i) k (cell_kept cell);
+        }))
+      where
+        own_availability : 0 ≡ (piece_row rows p).availability
+        own_availability = sym (ap (λ (r : PieceState). r.availability) own)
+
+    pub kept_put : AreKept w cs xs → Keeps counts (set (piece_row rows p).blocks k (cell_kept cell))
+        → AreKept w (set cs p counts) (set xs (p * w + k) cell)
+    kept_put kept keeps =
+        kept_on w cs xs (set xs (p * w + k) cell) p counts now kept (omega (arith, lp, ap length are, rows_length w cs xs))
+        (length-set xs (p * w + k) cell) cells_put
+        (subst (λ (r : PieceState). Keeps counts (set r.blocks k (cell_kept cell))) own keeps)
+
+    pub counts_put : counts.had ≡ (piece_row rows p).had → counts.level ≡ (piece_row rows p).level
+        → Keeps counts (set (piece_row rows p).blocks k (cell_kept cell))
+        → AreOf counts (piece_row (edit rows p (λ r. record r { blocks = set r.blocks k (cell_kept cell) })) p)
+    counts_put had level keeps =
+        subst (AreOf counts) (sym (get_or_edit_same rows p (λ r. record r { blocks = set r.blocks k (cell_kept cell) }) (fresh_piece 0) lp))
+        (record { had = had; level = level; held = keeps.are.held_is; touched = keeps.are.touched_is })
+
 -- ---- how a piece stands
 
--- what a piece with these counts and cells amounts to
-pub amount_is : (counts : Counts) (cells : List CellState) (n : ℕ) → Keeps counts cells
-    → amount_of (record { had = counts.had; level = counts.level; held = counts.held; touched = counts.touched; blocks = length cells; shown_by = n })
-    ≡ standing_of (shown_row n (row_of counts cells))
-amount_is counts cells n keeps =
-    λ i. amount_of (record {
-      had = counts.had;
-      level = counts.level;
-      held = keeps.are.held_is i;
-      touched = keeps.are.touched_is i;
-      blocks = length cells;
-      shown_by = n;
-    })
+-- what a piece with these counts amounts to
+pub amount_is : (counts : Counts) (row : PieceState) (n blocks : ℕ) → AreOf counts row → blocks ≡ length row.blocks
+    → amount_of (record { had = counts.had; level = counts.level; held = counts.held; touched = counts.touched; blocks = blocks; shown_by = n })
+    ≡ standing_of (shown_row n row)
+amount_is counts row n blocks are long =
+    λ i. amount_of (record { had = are.had i; level = are.level i; held = are.held i; touched = are.touched i; blocks = long i; shown_by = n })
 
 -- whether it is wanted and unbegun
-pub fresh_is : (counts : Counts) (cells : List CellState) (n : ℕ) → Keeps counts cells
-    → is_fresh_by (record { had = counts.had; level = counts.level; held = counts.held; touched = counts.touched; blocks = length cells; shown_by = n })
-    ≡ is_fresh (row_of counts cells)
-fresh_is counts cells n keeps = λ i. not (counts.had || (counts.level == 0)) && (keeps.are.touched_is i == 0)
+pub fresh_is : (counts : Counts) (row : PieceState) (n blocks : ℕ) → AreOf counts row
+    → is_fresh_by (record { had = counts.had; level = counts.level; held = counts.held; touched = counts.touched; blocks = blocks; shown_by = n })
+    ≡ is_fresh row
+fresh_is counts row n blocks are = λ i. not (are.had i || (are.level i == 0)) && (are.touched i == 0)
+
+-- the counts that are kept are those of the row
+pub own_counts : (counts : Counts) (cells : List CellState) → Keeps counts cells → AreOf counts (row_of counts cells)
+own_counts counts cells keeps = record { had = refl; level = refl; held = keeps.are.held_is; touched = keeps.are.touched_is }

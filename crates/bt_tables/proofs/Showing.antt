@@ -140,6 +140,15 @@ pub noted_together : (dealing : Dealing) (row : Dealings) → (noted dealing row
 noted_together Heard row = refl
 noted_together dealing row = refl
 
+-- so the rows of all peers stay such
+pub peers_noted : (rows : List Dealings) (shows : List (List Bool)) (delayed apart : Bool) (w : ℕ) (row now : Dealings) (dealing : Dealing)
+    → ArePeers rows shows delayed apart → w < length rows → row ≡ get_or rows w row → now ≡ noted dealing row
+    → ArePeers (set rows w now) shows delayed apart
+peers_noted rows shows delayed apart w row now dealing are lw read is =
+    peers_kept rows shows shows delayed apart w row now are refl lw read
+    (λ none. ap (λ (r : Dealings). r.overdue) is ∙ noted_prompt dealing row none)
+    (λ none. ap (λ (r : Dealings). r.alone) is ∙ (noted_together dealing row ∙ none))
+
 -- what comes to pass with a peer leaves what it shows
 pub noted_shown : (dealing : Dealing) (flags : List Bool) (row : Dealings) → showing flags (noted dealing row) ≡ noted_row dealing (showing flags row)
 noted_shown Heard flags row = refl

@@ -1,12 +1,12 @@
 -- Rows as they are kept: what is counted of each piece, and the cells of all pieces one behind the other. No public clause of the picker
 -- cites this module.
-use Rattle.std.specs.Prelude.{ℕ, ◌+◌, ◌-◌, ◌*◌, ◌<◌, ◌≤◌, ◌==◌, ◌&&◌, ◌||◌, Bool, false, not, List, [], ◌∷◌, length, map, take, drop, min, slice_index_or, if◌then◌else◌}
+use Rattle.std.specs.Prelude.{ℕ, ◌≡◌, ◌+◌, ◌-◌, ◌*◌, ◌<◌, ◌≤◌, ◌==◌, ◌&&◌, ◌||◌, Bool, false, not, List, [], ◌∷◌, length, map, take, drop, min, slice_index_or, if◌then◌else◌}
 use Rattle.bt_history.specs.declared.rules.TheConstants.{USUAL_LEVEL}
 use Rattle.bt_tables.specs.declared.cell.Cell.{Cell}
 use Rattle.bt_tables.specs.declared.counts.Counts.{Counts}
 use Rattle.bt_tables.specs.declared.piece.Standing.{Standing}
 use Rattle.bt_tables.specs.Tables.{CellState, PieceState, piece_row}
-use Rattle.bt_tables.specs.Standings.{Amount, AreCounts, AreTouched, cell_kept, group_number, stage_by, wanted_by}
+use Rattle.bt_tables.specs.Standings.{Amount, AreCounts, AreTouched, cell_kept, group_number, held_count, stage_by, touched_count, wanted_by}
 
 -- up to which block each is held or asked, once the one at this index is, or isn't
 abbrev pub passed_to : ℕ → ℕ → Bool → ℕ
@@ -46,6 +46,13 @@ amount_of s = record {
 -- the counts of piece p
 abbrev pub counts_at : List Counts → ℕ → Counts
 counts_at counts p = slice_index_or counts p no_counts
+
+-- the counts are those of the row
+pub record AreOf (counts : Counts) (row : PieceState) : Type 0 where
+  pub had : counts.had ≡ row.had
+  pub level : counts.level ≡ row.level
+  pub held : counts.held ≡ held_count row.blocks
+  pub touched : counts.touched ≡ touched_count row.blocks
 
 -- the counts are those of the cells
 pub record Keeps (counts : Counts) (cells : List CellState) : Type 0 where

@@ -1,6 +1,6 @@
 //! What is counted of the blocks of a piece.
 
-ghost use Rattle.std.specs.Prelude.{◌≡◌, ◌<◌, ◌≤◌, ◌+◌, ◌^◌};
+ghost use Rattle.std.specs.Prelude.{◌≡◌, ◌<◌, ◌≤◌, ◌+◌, ◌^◌, true};
 ghost use Rattle.bt_tables.specs.Tables.{one_if};
 ghost use Rattle.bt_tables.specs.Rows.{passed_to};
 ghost use Rattle.bt_tables.specs.Standings.{cell_kept, is_held, is_touched};
@@ -53,23 +53,48 @@ impl Counts {
         }
     }
 
-    /// The block's cell was `old`, and is `new` from now on.
+    /// With a block whose cell was `old`, and is `new` from now on.
     #[inline(always)]
-    pub fn note(&mut self, index: u32, old: Cell, new: Cell)
-        requires held { one_if (is_held (cell_kept old)) ≤ self.old.held }
-        requires held_room { self.old.held + one_if (is_held (cell_kept new)) < 2 ^ 32 + one_if (is_held (cell_kept old)) }
-        requires touched { one_if (is_touched (cell_kept old)) ≤ self.old.touched }
-        requires touched_room { self.old.touched + one_if (is_touched (cell_kept new)) < 2 ^ 32 + one_if (is_touched (cell_kept old)) }
+    pub fn noted(&self, index: u32, old: Cell, new: Cell) -> Counts
+        requires held { one_if (is_held (cell_kept old)) ≤ self.now.held }
+        requires held_room { self.now.held + one_if (is_held (cell_kept new)) < 2 ^ 32 + one_if (is_held (cell_kept old)) }
+        requires touched { one_if (is_touched (cell_kept old)) ≤ self.now.touched }
+        requires touched_room { self.now.touched + one_if (is_touched (cell_kept new)) < 2 ^ 32 + one_if (is_touched (cell_kept old)) }
         requires index { index + 1 < 2 ^ 32 }
-        ensures had { self.new.had ≡ self.old.had }
-        ensures level { self.new.level ≡ self.old.level }
-        ensures held { self.new.held + one_if (is_held (cell_kept old)) ≡ self.old.held + one_if (is_held (cell_kept new)) }
-        ensures touched { self.new.touched + one_if (is_touched (cell_kept old)) ≡ self.old.touched + one_if (is_touched (cell_kept new)) }
-        ensures first { self.new.first ≡ passed_to self.old.first index (is_touched (cell_kept new)) }
+        ensures had { result.had ≡ self.now.had }
+        ensures level { result.level ≡ self.now.level }
+        ensures held { result.held + one_if (is_held (cell_kept old)) ≡ self.now.held + one_if (is_held (cell_kept new)) }
+        ensures touched { result.touched + one_if (is_touched (cell_kept old)) ≡ self.now.touched + one_if (is_touched (cell_kept new)) }
+        ensures first { result.first ≡ passed_to self.now.first index (is_touched (cell_kept new)) }
     {
-        self.held = moved(self.held, old.is_held(), new.is_held());
-        self.touched = moved(self.touched, old.is_touched(), new.is_touched());
-        self.first = passed(self.first, index, new.is_touched());
+        Counts {
+            had: self.had,
+            level: self.level,
+            held: moved(self.held, old.is_held(), new.is_held()),
+            touched: moved(self.touched, old.is_touched(), new.is_touched()),
+            first: passed(self.first, index, new.is_touched()),
+        }
+    }
+
+    /// With one peer more that is asked for a block whose cell was `old`, and that isn't held.
+    #[inline(always)]
+    pub fn asked(&self, index: u32, old: Cell) -> Counts
+        requires touched { one_if (is_touched (cell_kept old)) ≤ self.now.touched }
+        requires touched_room { self.now.touched + 1 < 2 ^ 32 + one_if (is_touched (cell_kept old)) }
+        requires index { index + 1 < 2 ^ 32 }
+        ensures had { result.had ≡ self.now.had }
+        ensures level { result.level ≡ self.now.level }
+        ensures held { result.held ≡ self.now.held }
+        ensures touched { result.touched + one_if (is_touched (cell_kept old)) ≡ self.now.touched + 1 }
+        ensures first { result.first ≡ passed_to self.now.first index true }
+    {
+        Counts {
+            had: self.had,
+            level: self.level,
+            held: self.held,
+            touched: moved(self.touched, old.is_touched(), true),
+            first: passed(self.first, index, true),
+        }
     }
 }
 

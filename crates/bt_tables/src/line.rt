@@ -132,6 +132,7 @@ impl Line {
     }
 
     /// Takes the block that begins there out of the line, if there is one.
+    #[inline(always)]
     pub fn take(&mut self, piece: u32, begin: u32) -> Option<Block>
         ensures line { self.new ≡ record self.old {
           asked = filter (λ b. not ((piece == b.piece) && (begin == b.begin))) self.old.asked;
@@ -147,6 +148,7 @@ impl Line {
     }
 
     /// Takes the block at this place out of the line.
+    #[inline(always)]
     fn remove(&mut self, index: usize) -> Block
         requires { index < length self.old.asked }
         ensures value { result ≡ slice_index_or self.old.asked index result }
@@ -227,6 +229,7 @@ impl Line {
 
 /// Takes the flag at this place out of those of which so many are set, and tells whether it was set, as 1 or 0. Where none is set all are
 /// alike, so the last one goes.
+#[inline(always)]
 fn take_flag(flags: &mut Vec<bool>, late: usize, index: usize) -> usize
     requires index { index < length flags.old.items }
     requires late { late ≡ count_by (λ f. f) flags.old.items }
@@ -235,10 +238,21 @@ fn take_flag(flags: &mut Vec<bool>, late: usize, index: usize) -> usize
     ensures capacity { vec_capacity flags.new ≡ vec_capacity flags.old }
 {
     if late > 0 {
-        return usize::from(flags.remove(index));
+        return usize::from(remove_flag(flags, index));
     }
     let _last = flags.pop();
     0
+}
+
+/// Takes the flag at this place out, and tells whether it was set.
+#[inline(never)] // few peers are late
+fn remove_flag(flags: &mut Vec<bool>, index: usize) -> bool
+    requires { index < length flags.old.items }
+    ensures flag { (d : Bool) → result ≡ slice_index_or flags.old.items index d }
+    ensures items { flags.new.items ≡ remove flags.old.items index }
+    ensures capacity { vec_capacity flags.new ≡ vec_capacity flags.old }
+{
+    flags.remove(index)
 }
 
 /// Where in the line the first block stands that begins there, if one does.

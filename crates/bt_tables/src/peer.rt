@@ -6,6 +6,7 @@ ghost use Rattle.bt_meta.specs.declared.block.Block.{Block};
 ghost use Rattle.std.specs.List.{filter, list_any};
 ghost use Rattle.bt_history.specs.History.{same_begin};
 ghost use Rattle.bt_history.specs.Peers.{has_place};
+ghost use Rattle.bt_tables.specs.declared.peer.Dealing.TheVariants.{Heard};
 ghost use Rattle.bt_tables.specs.Showing.{Dealings, dealings, noted};
 ghost use Rattle.bt_tables.specs.Tables.{fresh_peer};
 
@@ -222,6 +223,7 @@ impl Peer {
     }
 
     /// Takes back all that was asked of the peer, and with it the cancels that it is owed.
+    #[inline(never)] // seldom
     fn reset(&mut self)
         ensures { self.new ≡ record self.old { is_open = false; asked = []; overdue = []; due = [] } }
     {
@@ -230,13 +232,21 @@ impl Peer {
         self.due.clear();
     }
 
+    /// The peer told something.
+    #[inline(always)]
+    pub fn hear(&mut self)
+        ensures { self.new ≡ noted Heard self.old }
+    {
+        self.late = true;
+    }
+
     /// Notes what came to pass with the peer. A caller says which dealing it is, and so has one line of this.
     #[inline(always)]
     pub fn note(&mut self, dealing: Dealing)
         ensures { self.new ≡ noted dealing self.old }
     {
         match dealing {
-            Dealing::Heard => self.late = true,
+            Dealing::Heard => self.hear(),
             Dealing::Choke => {
                 self.late = true;
                 self.reset();
@@ -289,6 +299,7 @@ impl Peer {
     }
 
     /// The cancel of the block that begins there is told.
+    #[inline(never)] // seldom
     fn cancel(&mut self, block: Block)
         ensures { self.new ≡ record self.old { due = filter (λ b. not (same_begin block b)) self.old.due } }
     {
@@ -298,6 +309,7 @@ impl Peer {
 
     /// The block that begins there was stored, brought by this peer or by another, or was released: it is asked of the peer no more, and
     /// where another brought it, a cancel comes due.
+    #[inline(always)]
     pub fn forget(&mut self, piece: u32, begin: u32, own: bool)
         requires { length self.old.asked + length self.old.due ≤ self.old.room }
         ensures { self.new ≡ record self.old {

@@ -4,6 +4,7 @@ ghost use Rattle.std.specs.Prelude.{◌≡◌, ◌≢◌, ◌<◌, ◌≤◌, �
 ghost use Rattle.bt_meta.specs.WireBits.{FindsFirst};
 ghost use Rattle.bt_history.specs.Counting.{any_below, count_below, table};
 ghost use Rattle.bt_history.specs.Peers.{has_place};
+ghost use Rattle.bt_tables.specs.declared.peer.Dealing.TheVariants.{Heard};
 ghost use Rattle.bt_tables.specs.Showing.{dealings};
 ghost use Rattle.bt_tables.specs.Tables.{alone_row, bits_row, delay_row, expects_at, is_late_at, noted_row, edit, fresh_peer, have_row, join_row, lack_row, leave_row};
 ghost use Rattle.bt_tables.specs.Tables.{HasShortLines, peer_row, request_row, without_block};
@@ -119,6 +120,15 @@ impl Peers {
         self.shows.clear(worker); // what is gone shows nothing
     }
 
+    /// The worker's peer told something.
+    #[inline(always)]
+    pub fn hear(&mut self, worker: u32)
+        requires { worker < length self.old }
+        ensures { self.new ≡ edit self.old worker (noted_row Heard) }
+    {
+        self.rows[worker as usize].hear();
+    }
+
     /// Notes what came to pass with the worker's peer.
     #[inline]
     pub fn note(&mut self, worker: u32, dealing: Dealing)
@@ -215,6 +225,7 @@ impl Peers {
     }
 
     /// The block that begins there was stored, brought by this peer or by another; with `own` it is as well one that is given up.
+    #[inline(always)]
     pub fn forget_at(&mut self, worker: u32, piece: u32, begin: u32, own: bool)
         requires worker { worker < length self.old }
         requires room { HasShortLines (peer_row self.old worker) }

@@ -194,8 +194,8 @@ impl Pieces {
     {
         let shown_by = u32::from(self.shown_by[piece as usize]);
         let before = self.rows.row(piece).standing(shown_by);
-        self.rows.apply(piece, change);
-        let after = self.rows.standing(piece, before.blocks, shown_by);
+        let counts = self.rows.apply(piece, change);
+        let after = counts.standing(before.blocks, shown_by);
         self.front = front_with(self.front, piece, after.is_fresh());
         self.shelf.put(piece, before, after);
     }

@@ -85,6 +85,7 @@ impl Queue {
     }
 
     /// Takes the block at this place out.
+    #[inline(always)]
     pub fn remove(&mut self, index: usize) -> Block
         requires { index < length self.old.items }
         ensures value { result ≡ slice_index_or self.old.items index result }
@@ -93,11 +94,22 @@ impl Queue {
         if index == 0 {
             self.pop()
         } else {
-            self.all.remove(self.gone + index)
+            self.take_out(index)
         }
     }
 
+    /// Takes the block at this place out, and moves those behind it.
+    #[inline(never)] // mostly the first one goes
+    fn take_out(&mut self, index: usize) -> Block
+        requires { index < length self.old.items }
+        ensures value { result ≡ slice_index_or self.old.items index result }
+        ensures items { self.new ≡ record self.old { items = remove self.old.items index } }
+    {
+        self.all.remove(self.gone + index)
+    }
+
     /// Takes the first block out.
+    #[inline(always)]
     fn pop(&mut self) -> Block
         requires { 0 < length self.old.items }
         ensures value { result ≡ slice_index_or self.old.items 0 result }
@@ -122,6 +134,7 @@ impl Queue {
 }
 
 /// Takes the first `SLACK` blocks out.
+#[inline(never)] // once in so many
 fn close(all: &mut Vec<Block>)
     requires { SLACK ≤ length all.old.items }
     ensures items { all.new.items ≡ drop SLACK all.old.items }

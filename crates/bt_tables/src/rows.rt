@@ -3,15 +3,15 @@
 ghost use Rattle.std.specs.Prelude.{◌≡◌, ◌<◌, ◌+◌, ◌^◌, false, true, length, slice_index_or, slice_set, IfOk};
 ghost use Rattle.bt_meta.specs.Layout.{block_count, piece_count};
 ghost use Rattle.bt_history.specs.Counting.{table};
-ghost use Rattle.bt_tables.specs.Floors.{NoneFresh, is_fresh};
-ghost use Rattle.bt_tables.specs.Rows.{amount_of, is_fresh_by};
-ghost use Rattle.bt_tables.specs.Standings.{is_held, cell_kept, shown_row, standing_of};
+ghost use Rattle.bt_tables.specs.Floors.{NoneFresh};
+ghost use Rattle.bt_tables.specs.Rows.{AreOf, Keeps};
+ghost use Rattle.bt_tables.specs.Standings.{is_held, cell_kept};
 ghost use Rattle.bt_tables.specs.Tables.{HasRoomOf, changed_row, edit, empty_cell, failed_row, fresh_piece, had_row, one_less, one_more, piece_row};
 ghost use Rattle.bt_tables.specs.Tables.{discarded_row, level_row, lost_row, stored_row};
 
 use crate::cell::{Cell, HELD};
 use crate::counts::Counts;
-use crate::piece::{Change, Piece, Standing};
+use crate::piece::{Change, Piece};
 use bt_meta::Torrent;
 use std::alloc::{AllocError, Global};
 use std::marker::Model;
@@ -81,15 +81,24 @@ impl Rows {
         Piece::new(&self.counts[piece as usize], &self.cells[start..end])
     }
 
-    /// How the piece stands, which has so many blocks and so many peers show.
+    /// What is kept of the block.
     #[inline(always)]
-    pub fn standing(&self, piece: u32, blocks: u32, shown_by: u32) -> Standing
+    fn cell(&self, piece: u32, index: u32) -> Cell
         requires piece { piece < length self.now }
-        requires blocks { blocks ≡ length (piece_row self.now piece).blocks }
-        ensures amount { amount_of result ≡ standing_of (shown_row shown_by (piece_row self.now piece)) }
-        ensures fresh { is_fresh_by result ≡ is_fresh (piece_row self.now piece) }
+        requires index { index < length (piece_row self.now piece).blocks }
+        ensures { cell_kept result ≡ slice_index_or (piece_row self.now piece).blocks index empty_cell }
     {
-        self.counts[piece as usize].standing(blocks, shown_by)
+        self.cells[piece as usize * self.width as usize + index as usize]
+    }
+
+    /// What is counted of the piece.
+    #[inline(always)]
+    fn counts(&self, piece: u32) -> &Counts
+        requires { piece < length self.now }
+        ensures are { AreOf result.now (piece_row self.now piece) }
+        ensures keeps { Keeps result.now (piece_row self.now piece).blocks }
+    {
+        &self.counts[piece as usize]
     }
 
     /// The first piece from this one on that is wanted and unbegun, or the count of the pieces.
@@ -106,23 +115,27 @@ impl Rows {
         count
     }
 
-    /// Changes the row of the piece.
+    /// Changes the row of the piece, and returns what is counted of it then: who reads that again waits for memory.
     #[inline(always)]
-    pub fn apply(&mut self, piece: u32, change: Change)
+    pub fn apply(&mut self, piece: u32, change: Change) -> Counts
         requires piece { piece < length self.old }
         requires fits { HasRoomOf change (piece_row self.old piece) }
-        ensures { self.new ≡ edit self.old piece (changed_row change) }
+        ensures rows { self.new ≡ edit self.old piece (changed_row change) }
+        ensures counts { AreOf result (piece_row self.new piece) }
     {
         match change {
-            Change::Raise(index) => self.raise(piece, index),
+            Change::Raise(index) => return self.raise(piece, index),
+            Change::Store { index, sender } => {
+                return self.put(piece, index, Cell::kept_by(sender));
+            }
             Change::Lower(index) => self.lower(piece, index),
-            Change::Store { index, sender } => self.put(piece, index, Cell::kept_by(sender)),
             Change::Pass => self.put_had(piece, true),
             Change::Fail => self.fail(piece),
             Change::Level(level) => self.put_level(piece, level),
             Change::Lose => self.lose(piece),
             Change::Discard(index) => self.discard(piece, index),
         }
+        *self.counts(piece)
     }
 
     /// The piece is had, or isn't.
@@ -147,7 +160,7 @@ impl Rows {
         ensures { self.new ≡ edit self.old piece failed_row }
     {
         for index in 0..self.row(piece).len() {
-            let cell = self.row(piece).cell(index);
+            let cell = self.cell(piece, index);
             self.put(piece, index, cell.released());
         }
     }
@@ -167,22 +180,25 @@ impl Rows {
         ensures { self.new ≡ edit self.old piece (discarded_row index) }
     {
         if index < self.row(piece).len() {
-            let cell = self.row(piece).cell(index);
+            let cell = self.cell(piece, index);
             self.put(piece, index, cell.released());
         }
     }
 
     /// One peer more is asked for the block, which isn't held.
     #[inline(always)]
-    fn raise(&mut self, piece: u32, index: u32)
+    fn raise(&mut self, piece: u32, index: u32) -> Counts
         requires piece { piece < length self.old }
         requires index { index < length (piece_row self.old piece).blocks }
         requires free { is_held (slice_index_or (piece_row self.old piece).blocks index empty_cell) ≡ false }
         requires few { (slice_index_or (piece_row self.old piece).blocks index empty_cell).askers + 1 < HELD }
-        ensures { self.new ≡ edit self.old piece (λ row. record row { blocks = edit row.blocks index one_more }) }
+        ensures rows { self.new ≡ edit self.old piece (λ row. record row { blocks = edit row.blocks index one_more }) }
+        ensures counts { AreOf result (piece_row self.new piece) }
     {
-        let cell = self.row(piece).cell(index);
-        self.put(piece, index, cell.raised());
+        let old = self.cell(piece, index);
+        let counts = self.counts(piece).asked(index, old);
+        self.set(piece, index, old.raised(), counts);
+        counts
     }
 
     /// One peer less is asked for the block, where the piece has so many.
@@ -192,21 +208,37 @@ impl Rows {
         ensures { self.new ≡ edit self.old piece (λ row. record row { blocks = edit row.blocks index one_less }) }
     {
         if index < self.row(piece).len() {
-            let cell = self.row(piece).cell(index);
+            let cell = self.cell(piece, index);
             self.put(piece, index, cell.lowered());
         }
     }
 
     /// The block's cell is this now.
     #[inline(always)]
-    fn put(&mut self, piece: u32, index: u32, cell: Cell)
+    fn put(&mut self, piece: u32, index: u32, cell: Cell) -> Counts
         requires piece { piece < length self.old }
         requires index { index < length (piece_row self.old piece).blocks }
-        ensures { self.new ≡ edit self.old piece (λ row. record row { blocks = slice_set row.blocks index (cell_kept cell) }) }
+        ensures rows { self.new ≡ edit self.old piece (λ row. record row { blocks = slice_set row.blocks index (cell_kept cell) }) }
+        ensures counts { AreOf result (piece_row self.new piece) }
     {
-        let place = piece as usize * self.width as usize + index as usize;
-        let old = self.cells[place];
-        self.counts[piece as usize].note(index, old, cell);
-        self.cells[place] = cell;
+        let old = self.cell(piece, index);
+        let counts = self.counts(piece).noted(index, old, cell);
+        self.set(piece, index, cell, counts);
+        counts
+    }
+
+    /// The block's cell is this now, and these are the counts of its piece.
+    #[inline(always)]
+    fn set(&mut self, piece: u32, index: u32, cell: Cell, counts: Counts)
+        requires piece { piece < length self.old }
+        requires index { index < length (piece_row self.old piece).blocks }
+        requires had { counts.had ≡ (piece_row self.old piece).had }
+        requires level { counts.level ≡ (piece_row self.old piece).level }
+        requires keeps { Keeps counts (slice_set (piece_row self.old piece).blocks index (cell_kept cell)) }
+        ensures rows { self.new ≡ edit self.old piece (λ row. record row { blocks = slice_set row.blocks index (cell_kept cell) }) }
+        ensures counts { AreOf counts (piece_row self.new piece) }
+    {
+        self.cells[piece as usize * self.width as usize + index as usize] = cell;
+        self.counts[piece as usize] = counts;
     }
 }

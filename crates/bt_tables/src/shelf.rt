@@ -4,6 +4,7 @@ ghost use Rattle.std.specs.Prelude.{◌≡◌, ◌<◌, ◌≤◌, ◌+◌, ◌-
 ghost use Rattle.bt_tables.specs.Orders.{at, ListsGroup, NoneBetween, SomeBetween};
 ghost use Rattle.bt_tables.specs.Risings.{IsRising};
 ghost use Rattle.bt_tables.specs.Rows.{amount_of};
+ghost use Rattle.bt_tables.specs.Tables.{one_if};
 ghost use Rattle.bt_tables.specs.Standings.{IsFiled, ListsOpen, ShelfState, lowered_group, raised_group, refiled};
 
 use crate::order::Order;
@@ -169,22 +170,28 @@ impl Shelf {
         requires fits { IsFiled self.old (amount_of before) (amount_of after) }
         ensures { self.new ≡ refiled self.old piece (amount_of before) (amount_of after) }
     {
-        if !before.is_grouped_as(after) {
-            return self.regroup(piece, before, after);
-        }
         self.recount(before, after);
+        if !before.is_grouped_as(after) {
+            self.regroup(piece, before, after);
+        }
     }
 
-    /// The same, where the piece may be in another group then.
+    /// The piece may be in another group now, and be had or at rest.
     #[inline(always)]
     fn regroup(&mut self, piece: u32, before: Standing, after: Standing)
         requires piece { piece < length self.old.groups }
         requires before { (amount_of before).group ≡ at self.old.groups piece }
-        requires fits { IsFiled self.old (amount_of before) (amount_of after) }
-        ensures { self.new ≡ refiled self.old piece (amount_of before) (amount_of after) }
+        requires had { one_if (amount_of before).had ≤ self.old.had }
+        requires left { one_if (amount_of before).left ≤ self.old.left }
+        requires had_fits { self.old.had - one_if (amount_of before).had + one_if (amount_of after).had < 2 ^ 32 }
+        requires left_fits { self.old.left - one_if (amount_of before).left + one_if (amount_of after).left < 2 ^ 32 }
+        ensures { self.new ≡ record self.old {
+          groups = slice_set self.old.groups piece (amount_of after).group;
+          had = self.old.had - one_if (amount_of before).had + one_if (amount_of after).had;
+          left = self.old.left - one_if (amount_of before).left + one_if (amount_of after).left;
+        } }
     {
         self.put_in(piece, before.group(), after.group());
-        self.recount(before, after);
         self.had = self.had - u32::from(before.had()) + u32::from(after.had());
         self.left = self.left - u32::from(before.left()) + u32::from(after.left());
     }

@@ -7,6 +7,7 @@ ghost use Rattle.std.specs.Option.{option_copied};
 ghost use Rattle.std.specs.List.{count_by, sum_by};
 ghost use Rattle.bt_tables.specs.Orders.{at, ListsGroup, NoneBetween, SomeBetween};
 ghost use Rattle.bt_tables.specs.Risings.{IsRising};
+ghost use Rattle.bt_tables.specs.declared.peer.Dealing.TheVariants.{Heard};
 ghost use Rattle.bt_tables.specs.Showing.{dealings};
 ghost use Rattle.bt_tables.specs.Standings.{ListsOpen, TellsRest, apart, group_number, group_of_row, standing_of};
 ghost use Rattle.bt_history.specs.Setting.{deepest_line, setting_of};
@@ -267,6 +268,7 @@ impl Tables {
 
     /// The floor that a reply to Next tells, where the peer's reach is full: that of the piece that is asked for. Where nothing is to be asked,
     /// the peer shows no unbegun wanted piece.
+    #[inline(always)]
     fn floor_told(&self, reply: Reply) -> Option<u32>
         ensures { IfSome result (λ n. TellsFloor self.now reply n) }
     {
@@ -386,6 +388,15 @@ impl Tables {
         ensures { self.new ≡ with_peer self.old worker (noted_row dealing) }
     {
         self.peers.note(worker, dealing);
+    }
+
+    /// An arrival is something that the worker's peer told.
+    #[inline(always)]
+    fn hear(&mut self, worker: u32)
+        requires { worker < length self.old.peers }
+        ensures { self.new ≡ with_peer self.old worker (noted_row Heard) }
+    {
+        self.peers.hear(worker);
     }
 
     /// Alone: the worker's peer works alone from now on, or like the others again.
@@ -560,7 +571,7 @@ impl Tables {
         if reply.is_stored() {
             self.put_block(worker, piece, begin / BLOCK_SIZE);
         }
-        self.note(worker, Dealing::Heard);
+        self.hear(worker);
     }
 
     /// A check of the piece, by its reply.

@@ -1,7 +1,7 @@
-use Rattle.std.proofs.Common.{arith, ◌∙◌, ap, refl}
-use Rattle.bt_tables.specs.Showing.{Dealings, noted}
+use Rattle.std.proofs.Common.{arith}
+use Rattle.bt_tables.specs.Showing.{noted}
 use Rattle.bt_tables.specs.Tables.{noted_row}
-use Rattle.bt_tables.proofs.Showing.{noted_prompt, noted_shown, noted_together, peers_kept, showing_set, worker_within}
+use Rattle.bt_tables.proofs.Showing.{noted_shown, peers_noted, showing_set, worker_within}
 use Rattle.bt_tables.proofs.peers.Peers.note.Goals as goal
 
 pub index_mut-requires : goal.index_mut-requires
@@ -14,10 +14,8 @@ pub invariant_of-self : goal.invariant_of-self
 invariant_of-self c =
     let o = c.self.inside in
     let lw = worker_within o.rows.items o.shows _ c.args.worker c.self.view_is c.self.invariant.each c.requires in
-    peers_kept o.rows.items o.shows o.shows o.delayed o.apart c.args.worker c.index_mut.result.now c.note.new.self c.self.invariant
-    refl lw c.index_mut.ensures.value
-    (λ none. ap (λ (r : Dealings). r.overdue) c.note.ensures ∙ noted_prompt c.args.dealing c.index_mut.result.now none)
-    (λ none. ap (λ (r : Dealings). r.alone) c.note.ensures ∙ (noted_together c.args.dealing c.index_mut.result.now ∙ none))
+    peers_noted o.rows.items o.shows o.delayed o.apart c.args.worker c.index_mut.result.now c.note.new.self c.args.dealing c.self.invariant lw
+    c.index_mut.ensures.value c.note.ensures
 
 pub returns : goal.returns
 returns c =

@@ -51,18 +51,17 @@ module _ (rows now : List PieceState) (p i : ℕ) (lp : p < length rows) (lt : i
           read ∙ (ap (λ (l : List CellState). get_or l i empty_cell) blocks ∙
           get_or_default (partly i (piece_row rows p)).blocks i empty_cell old (omega (arith, lt, partly_long i (piece_row rows p) lt)))
 
-pub row-requires-in-loop-index : goal.row-requires-in-loop-index
-row-requires-in-loop-index c =
+pub cell-cell-requires-clause-piece : goal.cell-cell-requires-clause-piece
+cell-cell-requires-clause-piece c =
     let lt : c.loop-index.index < length (piece_row c.args.self.now c.args.piece).blocks =
     omega (arith, c.loop-index-test.true, c.loop-index.invariant.0) in
     in_rows c.args.self.now c.loop-index.self c.args.piece c.loop-index.index c.requires lt c.loop-index.invariant.1
 
-pub cell-cell-requires : goal.cell-cell-requires
-cell-cell-requires c =
+pub cell-cell-requires-clause-index : goal.cell-cell-requires-clause-index
+cell-cell-requires-clause-index c =
     let lt : c.loop-index.index < length (piece_row c.args.self.now c.args.piece).blocks =
     omega (arith, c.loop-index-test.true, c.loop-index.invariant.0) in
-    let within = in_row c.args.self.now c.loop-index.self c.args.piece c.loop-index.index c.requires lt c.loop-index.invariant.1 in
-    omega (arith, within, ap (λ (r : PieceState). length r.blocks) c.row-in-loop-index.ensures)
+    in_row c.args.self.now c.loop-index.self c.args.piece c.loop-index.index c.requires lt c.loop-index.invariant.1
 
 pub put-requires-clause-piece : goal.put-requires-clause-piece
 put-requires-clause-piece c =
@@ -81,10 +80,9 @@ loop-index-preserved c =
     let lt : c.loop-index.index < length (piece_row c.args.self.now c.args.piece).blocks =
     omega (arith, c.loop-index-test.true, c.loop-index.invariant.0) in (
       c.loop-index.invariant.0,
-      c.put.ensures ∙ one_more_gone c.args.self.now c.loop-index.self c.args.piece c.loop-index.index c.requires lt c.loop-index.invariant.1
+      c.put.ensures.rows ∙ one_more_gone c.args.self.now c.loop-index.self c.args.piece c.loop-index.index c.requires lt c.loop-index.invariant.1
           (cell_kept c.cell-cell.result) (cell_kept c.released.result)
-          (c.cell-cell.ensures ∙
-          ap (λ (r : PieceState). get_or r.blocks c.loop-index.index empty_cell) c.row-in-loop-index.ensures) c.released.ensures,
+          c.cell-cell.ensures c.released.ensures,
     )
 
 pub returns : goal.returns

@@ -1,5 +1,5 @@
-use Rattle.std.proofs.Common.{List, get_or, ap, arith, length, ◌<◌, ◌≤◌, ◌∙◌, sym}
-use Rattle.bt_tables.specs.Tables.{CellState, PieceState, edit, empty_cell, fresh_piece, one_less, piece_row}
+use Rattle.std.proofs.Common.{List, ap, arith, length, ◌<◌, ◌≤◌, ◌∙◌, sym}
+use Rattle.bt_tables.specs.Tables.{CellState, PieceState, edit, fresh_piece, one_less, piece_row}
 use Rattle.bt_tables.specs.Standings.{cell_kept}
 use Rattle.bt_tables.proofs.Rowed.{cell_edited}
 use Rattle.bt_tables.proofs.Tabled.{edit_past, edit_unmoved}
@@ -12,9 +12,8 @@ returns-then-index-len c =
     let k = c.args.index in
     let lk : k < length (piece_row rows p).blocks =
     omega (arith, c.if-index-len.true, c.len.ensures, ap (λ (r : PieceState). length r.blocks) c.row.ensures) in
-    let read = c.cell-cell.ensures ∙ ap (λ (r : PieceState). get_or r.blocks k empty_cell) c.row-then-index-len.ensures in
-    c.put.ensures
-    ∙ cell_edited rows p k one_less (cell_kept c.lowered.result) (cell_kept c.cell-cell.result) c.requires lk read c.lowered.ensures
+    c.put.ensures.rows
+    ∙ cell_edited rows p k one_less (cell_kept c.lowered.result) (cell_kept c.cell-cell.result) c.requires lk c.cell-cell.ensures c.lowered.ensures
 
 pub returns-else-index-len : goal.returns-else-index-len
 returns-else-index-len c =

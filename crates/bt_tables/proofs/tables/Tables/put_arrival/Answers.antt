@@ -5,8 +5,8 @@ use Rattle.bt_tables.proofs.Tabled.{length_table}
 use Rattle.bt_tables.proofs.tables.Tables.put_arrival.Goals as goal
 use Rattle.bt_tables.proofs.tables.Tables.put_arrival.Goals.{then-is_stored, else-is_stored}
 
-pub note-requires : goal.note-requires
-note-requires c =
+pub hear-requires : goal.hear-requires
+hear-requires c =
     let t = c.args.self.now in
     let rows : ℕ → PeerState = λ q. without_block c.args.piece (block_size * (c.args.begin / block_size)) (c.args.worker == q) (peer_row t.peers q) in
     elim c.if-is_stored.branch [

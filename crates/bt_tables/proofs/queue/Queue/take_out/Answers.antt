@@ -1,6 +1,6 @@
 use Rattle.std.proofs.Common.{◌≡◌, ◌+◌, ◌∙◌, ℕ, List, [], ◌∷◌, ap, arith, drop, refl, suc, zero}
 use Rattle.std.specs.List.{remove}
-use Rattle.bt_tables.proofs.queue.Queue.remove.Goals as goal
+use Rattle.bt_tables.proofs.queue.Queue.take_out.Goals as goal
 
 -- what stands behind a place, once one of it is taken out
 drop_remove : {A : Type 0} (n i m : ℕ) (l : List A) → m ≡ n + i → drop n (remove l m) ≡ remove (drop n l) i
@@ -10,8 +10,8 @@ drop_remove (suc n) zero (suc m) [] e = refl
 drop_remove (suc n) (suc i) (suc m) [] e = refl
 drop_remove (suc n) i (suc m) (x ∷ l) e = drop_remove n i m l (omega (arith, e))
 
-pub returns-else-index-eq0-clause-items : goal.returns-else-index-eq0-clause-items
-returns-else-index-eq0-clause-items c =
+pub returns-clause-items : goal.returns-clause-items
+returns-clause-items c =
     let o = c.self.inside in
     rw (← c.self.view_is) (λ i. record {
       room = o.room;
