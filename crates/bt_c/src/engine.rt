@@ -158,19 +158,10 @@ impl Engine {
         match self {
             Engine::Picker(picker) => Ok(picker.tell(worker, told)),
             Engine::Keeper(keeper) => Ok(keeper.tell(alloc, worker, told)?),
-            Engine::Desk(desk) => tell_desk(desk, alloc, worker, told),
+            Engine::Desk(desk) => {
+                let call = owned(alloc, told)?;
+                Ok(desk.call(worker, call)?)
+            }
         }
     }
-}
-
-/// A desk's answer. Out of line, so that a picker makes no room for a call that owns what it carries.
-#[inline(never)]
-fn tell_desk(desk: &mut Desk, alloc: Global, worker: u32, told: Told<'_>) -> Result<Reply, Untold>
-    requires { worker < desk.old.setting.workers }
-    ensures ok { IfOk result (λ reply. Gains desk.old desk.new (telling worker told.entry reply)) }
-    ensures err { OnErr result (desk.new ≡ desk.old) }
-    ensures journal { result ≡ Err Untold.Journal → is_loss (action_told told.entry) ≡ true }
-{
-    let call = owned(alloc, told)?;
-    Ok(desk.call(worker, call)?)
 }

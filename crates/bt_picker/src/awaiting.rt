@@ -77,7 +77,7 @@ impl<'a> Position<'a> {
     }
 
     /// The same, where endgame waits only for pieces that a joined peer shows.
-    #[inline(never)] // by the usual rules it waits for all
+    #[inline(never)] // it goes over pieces, and a block is unasked mostly
     fn are_shown_asked(&self) -> bool
         requires { self.now.setting.shown ≡ true }
         ensures { result ≡ each_block self.now.setting.torrent (λ b. not (awaited self.now.setting self.now.history b.piece)

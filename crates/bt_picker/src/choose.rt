@@ -314,7 +314,7 @@ impl<'a> Position<'a> {
         if let Some(_) = self.some_shown(worker, self.group(level, Stage::Open)) {
             return true;
         }
-        self.rarest(worker, level, 0).is_some()
+        self.candidate(worker, level, true, 0).is_some()
     }
 
     /// So many of the highest levels no piece has.

@@ -332,8 +332,8 @@ impl Tables {
         requires { piece < length self.now.pieces }
         ensures { result ≡ true → nat_le self.now.order_from (piece_row self.now.pieces piece).level ≡ false → AsksRarest self.now piece }
     {
-        self.pieces.had() >= self.rules.random
-            && (self.has_few_open() || self.pieces.row(piece).is_fresh())
+        (self.has_few_open() || self.pieces.row(piece).is_fresh())
+            && self.pieces.had() >= self.rules.random
     }
 
     /// Whether no more pieces are open than may be before begun ones come first.

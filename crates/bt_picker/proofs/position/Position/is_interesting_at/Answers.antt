@@ -29,12 +29,12 @@ returns-in-Some-some_shown-clause-yes c is =
 pub returns-clause-yes : goal.returns-clause-yes
 returns-clause-yes c is =
     let d = c.args.self.now in
-    found_interests d.setting d.history c.args.worker c.args.level c.rarest.result c.rarest.ensures.least c.rarest.ensures.within
+    found_interests d.setting d.history c.args.worker c.args.level c.candidate.result c.candidate.ensures.least c.candidate.ensures.within
     (sym c.is_some.ensures ∙ is)
 
 pub returns-clause-no : goal.returns-clause-no
 returns-clause-no c is =
     let d = c.args.self.now in
-    missing_interests d.setting d.history c.args.worker c.args.level c.group.result.now c.group-2.result.now c.rarest.result
+    missing_interests d.setting d.history c.args.worker c.args.level c.group.result.now c.group-2.result.now c.candidate.result
     c.requires.prompt c.group.ensures
-    c.group-2.ensures c.in_default.ensures c.in_default-some_shown.ensures c.rarest.ensures.least (sym c.is_some.ensures ∙ is)
+    c.group-2.ensures c.in_default.ensures c.in_default-some_shown.ensures c.candidate.ensures.least (sym c.is_some.ensures ∙ is)
