@@ -91,6 +91,17 @@ static int ask_and_release(void) {
     }
     return 1000;
 }
+/* A peer that shows nothing has nothing to be asked for. */
+static int nothing(void) {
+    well(piecepick_join(picker, PEERS, &answer));
+    well(piecepick_unchoke(picker, PEERS, &answer));
+    double begin = now();
+    for (uint64_t word = 0; word < 100000; word++) well(piecepick_next(picker, PEERS, word, &answer));
+    double end = now();
+    if (answer.kind != PIECEPICK_K_NOTHING_LEFT) exit(1);
+    well(piecepick_leave(picker, PEERS, &answer));
+    return -(int)((end - begin) / 100000);
+}
 /* The requests of forty full pipes are told late. Chokes free them. */
 static int late(void) {
     enum { FIRST = 10, DEPTH = 16 };
@@ -259,7 +270,7 @@ static const struct {
     {"join, leave of a peer that shows nothing", come_and_go}, {"bits, the first ones", bits}, {"haves that tell nothing new", haves}, {"have that tells nothing new", have},
     {"lack, and the have behind it", lack_and_have},
     {"next with a request, and its release", ask_and_release}, {"the same of a peer with 16 late requests", ask_with_late}, {"late", late},
-    {"next, PIPE_FULL", full}, {"choke, unchoke with nothing asked", choke}, {"depth", depth},
+    {"next, NOTHING_LEFT", nothing}, {"next, PIPE_FULL", full}, {"choke, unchoke with nothing asked", choke}, {"depth", depth},
     {"reach", reach}, {"set_level, from 4 to 5 or back", set_level}, {"set_levels that change nothing", set_levels}, {"want that changes nothing", want},
     {"set_in_order", in_order}, {"set_in_order_from", in_order_from}, {"epoch", epoch}, {"rule", rule}, {"has_piece", has_piece},
     /* From here on a peer was told to work alone, which each ask of this picker looks at. */
