@@ -3,12 +3,18 @@
 //
 //     g++ -std=c++17 -O2 -march=x86-64-v2 -o bench_plain tools/plain/bench_plain.cpp
 //     ./bench_plain [PIECES [HALVINGS [PEERS]]]
+//
+// With -DAPART='[[gnu::noinline]]' callgrind counts its calls one by one.
 #include <algorithm>
 #include <cstdint>
 #include <cstdio>
 #include <cstdlib>
 #include <ctime>
 #include <vector>
+
+#ifndef APART
+#define APART
+#endif
 
 using std::vector;
 typedef uint16_t u16;
@@ -154,7 +160,7 @@ struct Picker {
         regroup(piece);
     }
 
-    void come(u32 worker, const vector<uint8_t> &bits)
+    APART void come(u32 worker, const vector<uint8_t> &bits)
     {
         for (u32 byte = 0; byte < bits.size(); byte++) {
             shown[size_t(byte) * workers + worker] = bits[byte];
@@ -260,7 +266,7 @@ struct Picker {
         return {interests(worker) ? IDLE : NOTHING_LEFT, {}};
     }
 
-    Answer next(u32 worker, u64 word)
+    APART Answer next(u32 worker, u64 word)
     {
         Answer answer = choose(worker, word);
         Peer &peer = peers[worker];
@@ -289,7 +295,7 @@ struct Picker {
     }
 
     // The block came. Whether it completes its piece.
-    bool arrived(u32 worker, Block block)
+    APART bool arrived(u32 worker, Block block)
     {
         u16 askers = cells[size_t(block.piece) * BLOCKS + block.index];
         if (askers == HELD) return false;
@@ -303,7 +309,7 @@ struct Picker {
         return rows[block.piece].held == BLOCKS;
     }
 
-    void settle(u32 piece)
+    APART void settle(u32 piece)
     {
         rows[piece].had = true;
         had++;
