@@ -1,7 +1,9 @@
 /* What each call costs, at 1,000 and at 100,000 pieces of 16 blocks, with 50 peers, where nothing is kept. And what an arrival costs where the
    blocks of begun pieces are kept, in pieces of 16 to 4,096 blocks.
        cc -O2 -I out costs.c out/libpiecepick.a -o costs && ./costs
-   Prints a row for each call: nanoseconds, the least of five rounds. Each round makes the call as often as the second number says. */
+   Prints a row for each call: nanoseconds, the least of five rounds. With a number of pieces and the name of a row it makes the calls of that
+   row alone, once, so that their instructions can be counted:
+       valgrind --tool=callgrind --toggle-collect=piecepick_next ./costs 10000 'next, NOTHING_LEFT' */
 #define _POSIX_C_SOURCE 199309L
 #include "piecepick.h"
 #include <stdio.h>
@@ -278,7 +280,8 @@ static const struct {
     {"the same where eight others work alone", ask_beside_alone},
 };
 
-static void measure(uint32_t count) {
+/* Takes the sets and levels of so many pieces. */
+static void take_pieces(uint32_t count) {
     pieces = count;
     flags_len = (pieces + 7) / 8;
     flags = malloc(flags_len);
@@ -287,6 +290,23 @@ static void measure(uint32_t count) {
     memset(flags, 0xff, flags_len);
     if (pieces % 8) flags[flags_len - 1] = (uint8_t)(0xff << (8 - pieces % 8));
     memset(levels, 4, pieces);
+}
+
+/* Makes the calls of one row once. */
+static int make_row(uint32_t count, const char *name) {
+    take_pieces(count);
+    open_picker();
+    for (size_t i = 0; i < sizeof CALLS / sizeof *CALLS; i++) {
+        if (strcmp(CALLS[i].name, name)) continue;
+        CALLS[i].make();
+        return 0;
+    }
+    fprintf(stderr, "no row has this name: %s\n", name);
+    return 2;
+}
+
+static void measure(uint32_t count) {
+    take_pieces(count);
     double begin = now();
     open_picker();
     printf("%u pieces\n%12.0f ns  open_parts, and %d peers that come\n", pieces, now() - begin, PEERS);
@@ -332,8 +352,9 @@ static void measure_kept(uint32_t blocks) {
     free(digests);
 }
 
-int main(void) {
+int main(int count, char **words) {
     digest_of_zeros();
+    if (count == 3) return make_row((uint32_t)strtoul(words[1], NULL, 10), words[2]);
     measure(1000);
     measure(100000);
     measure_kept(16);
