@@ -93,7 +93,7 @@ either true n = refl
 either false n = refl
 
 -- the stage of a piece by three tests: it rests, it is unbegun, and its lacking blocks are all asked
-abbrev staged : Bool → Bool → Bool → ℕ → Stage
+abbrev pub staged : Bool → Bool → Bool → ℕ → Stage
 staged resting unbegun asked n = if resting then Resting else if unbegun then Unbegun n else if asked then AskedOut else Open
 
 -- each stage has a place among the groups of a level

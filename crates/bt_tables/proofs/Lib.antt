@@ -9,13 +9,17 @@ pub mod Rowed
 pub mod Blank
 pub mod Shelves
 pub mod Apart
+pub mod Every
 pub mod Sweeps
 pub mod Opened
 pub mod FloorSteps
 pub mod Striped
 pub mod Showing
 pub mod Spelled
+pub mod Ones
 pub mod Fronts
 pub mod Lacked
 pub mod Moves
+pub mod Borders
+pub mod Slots
 pub mod Places

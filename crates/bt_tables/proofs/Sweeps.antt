@@ -6,7 +6,8 @@ use Rattle.std.proofs.lemmas.List.{get_or_past}
 use Rattle.bt_history.specs.Counting.{table}
 use Rattle.bt_tables.specs.Tables.{AreCounted, PieceState, edit, fresh_piece, hidden_rows, less_available, more_available, one_if, piece_row}
 use Rattle.bt_tables.specs.Tables.{level_row, recounted, shown_rows}
-use Rattle.bt_tables.proofs.Tabled.{edit_none, edit_past, edit_read, edit_table, get_or_table, length_is_table, length_table, rows_more, rows_read}
+use Rattle.bt_tables.specs.Showing.{AreSet}
+use Rattle.bt_tables.proofs.Tabled.{edit_none, edit_past, edit_read, edit_table, get_or_table, length_is_table, length_table, rows_init, rows_more, rows_read}
 use Rattle.bt_tables.proofs.Tabled.{same_table, upto, edit_unmoved, upto_above, upto_below}
 
 module _ {A : Type 0} (n : ℕ) (g f : ℕ → A) where
@@ -145,3 +146,19 @@ levelled_more rows now after level i n are lt is edited =
 -- a piece that has the told level stays as it is
 pub same_level : (rows : List PieceState) (p n : ℕ) → p < length rows → (piece_row rows p).level ≡ n → rows ≡ edit rows p (level_row n)
 same_level rows p n lt is = sym (edit_unmoved rows p (level_row n) (fresh_piece 0) lt (λ i. record (piece_row rows p) { level = sym is i }))
+
+-- ---- a peer that shows each piece
+
+-- each row changes where each flag is set
+pub stepped_all : (step : Bool → PieceState → PieceState) (rows : List PieceState) (flags : List Bool) → AreSet flags → length rows ≤ length flags
+    → table (length rows) (λ p. step true (piece_row rows p)) ≡ table (length rows) (λ p. step (slice_index_or flags p false) (piece_row rows p))
+stepped_all step rows flags all few =
+    same_table (length rows) (λ p. step true (piece_row rows p)) (λ p. step (slice_index_or flags p false) (piece_row rows p))
+    (λ p lp. ap (λ (b : Bool). step b (piece_row rows p)) (sym (all p (omega (arith, lp, few)))))
+
+-- and there is room for one more in each count
+pub has_rooms : (rows : List PieceState) (flags : List Bool) → AreSet flags → length rows ≤ length flags → AreCounted (shown_rows flags rows)
+    → (p : ℕ) → p < length rows → (piece_row rows p).availability + 1 < 2 ^ 16
+has_rooms rows flags all few counted p lp =
+    has_room rows rows flags 0 p counted
+    (rows_init rows _ (fresh_piece 0)) (omega arith) (all p (omega (arith, lp, few))) lp

@@ -1,5 +1,5 @@
 -- Numbers in groups: what contracts see of an order, and how its arrays fit together.
-use Rattle.std.specs.Prelude.{ℕ, ◌+◌, ◌≡◌, ◌⊎◌, ◌<◌, ◌≤◌, ◌^◌, List, length, slice_index_or}
+use Rattle.std.specs.Prelude.{ℕ, ◌+◌, ◌-◌, ◌≡◌, ◌⊎◌, ◌<◌, ◌≤◌, ◌^◌, ◌&&◌, List, if◌then◌else◌, length, nat_le, nat_lt, slice_index_or}
 
 -- the number at place i of a list
 abbrev pub at : List ℕ → ℕ → ℕ
@@ -24,6 +24,19 @@ NoneBetween group_of low high = (p : ℕ) → p < length group_of → low ≤ at
 -- some number is
 abbrev pub SomeBetween : List ℕ → ℕ → ℕ → Type 0
 SomeBetween group_of low high = (p : ℕ) × (p < length group_of) × (low ≤ at group_of p) × (at group_of p < high)
+
+-- each number's group is what the function makes of its group before
+pub record AreMoved (move : ℕ → ℕ) (before after : List ℕ) : Type 0 where
+  pub len : length after ≡ length before
+  pub each : (p : ℕ) → p < length before → at after p ≡ move (at before p)
+
+-- a group from low up to high becomes the next one, and another stays
+abbrev pub raised_between : ℕ → ℕ → ℕ → ℕ
+raised_between low high g = if nat_le low g && nat_lt g high then g + 1 else g
+
+-- a group from low up to high becomes the one before it, and another stays
+abbrev pub lowered_between : ℕ → ℕ → ℕ → ℕ
+lowered_between low high g = if nat_le low g && nat_lt g high then g - 1 else g
 
 -- ---- the arrays; no public clause cites what follows
 

@@ -82,6 +82,10 @@ pub record ArePeers (rows : List Dealings) (shows : List (List Bool)) (delayed a
   pub prompt : delayed ≡ false → NoneLate rows
   pub together : apart ≡ false → NoneAlone rows
 
+-- each flag is set
+abbrev pub AreSet : List Bool → Type 0
+AreSet flags = (p : ℕ) → p < length flags → slice_index_or flags p false ≡ true
+
 -- the pieces that the worker's peer shows
 abbrev pub flags_at : List (List Bool) → ℕ → List Bool
 flags_at shows worker = slice_index_or shows worker []

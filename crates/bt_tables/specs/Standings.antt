@@ -1,5 +1,5 @@
 -- What a row of a piece amounts to among the others: its group, and what is counted of it. No public clause of the picker cites this module.
-use Rattle.std.specs.Prelude.{ℕ, ◌+◌, ◌-◌, ◌*◌, ◌%◌, ◌^◌, ◌≡◌, ◌<◌, ◌≤◌, ◌==◌, ◌||◌, Bool, false, not, List, [], ◌∷◌, length, map, min, nat_lt, true}
+use Rattle.std.specs.Prelude.{ℕ, ◌+◌, ◌-◌, ◌*◌, ◌%◌, ◌^◌, ◌≡◌, ◌<◌, ◌≤◌, ◌==◌, ◌||◌, ◌&&◌, Bool, false, not, List, [], ◌∷◌, length, map, min, nat_le, nat_lt, true}
 use Rattle.std.specs.Prelude.{None, Some, is_some, slice_index_or, slice_set, if◌then◌else◌}
 use Rattle.std.specs.List.{count_by, sum_by}
 use Rattle.bt_tables.specs.declared.cell.Cell.{Cell}
@@ -116,6 +116,18 @@ raised_group n g = if nat_lt CROWD n then g else if nat_lt (place_in g) UNBEGUN 
 -- the group of a piece of group g once one peer less shows it, n before
 abbrev pub lowered_group : ℕ → ℕ → ℕ
 lowered_group n g = if nat_lt CROWD n then g else if nat_lt UNBEGUN (place_in g) then g - 1 else g
+
+-- the same once one peer more shows each piece, and once one less does, where no group is a last one: a group of unbegun pieces of the first
+-- so many slots moves
+abbrev pub raised_in : ℕ → ℕ → ℕ
+raised_in slots g = if nat_lt g (slots * SPAN) && (nat_le UNBEGUN (place_in g) && nat_lt (place_in g) (SPAN - 1)) then g + 1 else g
+
+abbrev pub lowered_in : ℕ → ℕ → ℕ
+lowered_in slots g = if nat_lt g (slots * SPAN) && nat_lt UNBEGUN (place_in g) then g - 1 else g
+
+-- no group of the first so many slots is the last of its level
+abbrev pub NoneCrowded : ℕ → List ℕ → Type 0
+NoneCrowded slots groups = (p : ℕ) → p < length groups → at groups p < slots * SPAN → place_in (at groups p) < SPAN - 1
 
 -- so many blocks are to be had of a piece of this level that has so many
 abbrev pub wanted_by : ℕ → ℕ → ℕ

@@ -8,6 +8,7 @@
 mod cell;
 mod counts;
 mod floors;
+mod full;
 mod haves;
 mod line;
 mod order;

@@ -2,7 +2,8 @@
 
 ghost use Rattle.std.specs.Prelude.{◌≡◌, ◌<◌, ◌≤◌, ◌+◌, ◌-◌, true, false, length, replicate, slice_set, IfOk};
 ghost use Rattle.std.specs.List.{range_with_len};
-ghost use Rattle.bt_tables.specs.Orders.{at, AreInverse, Begins, ListsGroup, NoneBetween, OrderState, SomeBetween};
+ghost use Rattle.bt_tables.specs.Orders.{at, AreInverse, AreMoved, Begins, ListsGroup, NoneBetween, OrderState, SomeBetween};
+ghost use Rattle.bt_tables.specs.Orders.{lowered_between, raised_between};
 
 use std::alloc::{AllocError, Global};
 use std::marker::Model;
@@ -122,6 +123,32 @@ impl Order {
         self.groups[number as usize] = group;
     }
 
+    /// Moves each number of the groups from `low` up to `high` to the next group. The borders of the groups move, and no number does.
+    pub fn raise_between(&mut self, low: u32, high: u32)
+        requires low { 0 < low }
+        requires rise { low ≤ high }
+        requires high { high < self.old.count }
+        ensures count { self.new.count ≡ self.old.count }
+        ensures groups { AreMoved (raised_between low high) self.old.group_of self.new.group_of }
+    {
+        raise_each(&mut self.groups, low as u16, high as u16);
+        self.ends
+            .copy_within(low as usize - 1..high as usize - 1, low as usize);
+    }
+
+    /// Moves each number of the groups from `low` up to `high` to the group before its own. The borders of the groups move, and no number does.
+    pub fn lower_between(&mut self, low: u32, high: u32)
+        requires low { 0 < low }
+        requires rise { low ≤ high }
+        requires high { high ≤ self.old.count }
+        ensures count { self.new.count ≡ self.old.count }
+        ensures groups { AreMoved (lowered_between low high) self.old.group_of self.new.group_of }
+    {
+        lower_each(&mut self.groups, low as u16, high as u16);
+        self.ends
+            .copy_within(low as usize..high as usize, low as usize - 1);
+    }
+
     /// Moves the number up, group by group.
     fn raise_to(&mut self, number: u32, group: u32)
         requires number { number < length self.old.group_of }
@@ -155,6 +182,50 @@ fn begin_of(ends: &[u32], group: u32) -> u32
         0
     } else {
         ends[group as usize - 1]
+    }
+}
+
+/// The groups from `low` up to `high` become the next ones.
+fn raise_each(groups: &mut [u16], low: u16, high: u16)
+    ensures { AreMoved (raised_between low high) groups.old groups.new }
+{
+    for number in 0..groups.len() {
+        groups[number] = raised(groups[number], low, high);
+    }
+}
+
+/// The groups from `low` up to `high` become those before them.
+fn lower_each(groups: &mut [u16], low: u16, high: u16)
+    requires { 0 < low }
+    ensures { AreMoved (lowered_between low high) groups.old groups.new }
+{
+    for number in 0..groups.len() {
+        groups[number] = lowered(groups[number], low, high);
+    }
+}
+
+/// The next group, where this is one from `low` up to `high`.
+#[inline(always)]
+fn raised(group: u16, low: u16, high: u16) -> u16
+    ensures { result ≡ raised_between low high group }
+{
+    if low <= group && group < high {
+        group + 1
+    } else {
+        group
+    }
+}
+
+/// The group before this one, where this is one from `low` up to `high`.
+#[inline(always)]
+fn lowered(group: u16, low: u16, high: u16) -> u16
+    requires { 0 < low }
+    ensures { result ≡ lowered_between low high group }
+{
+    if low <= group && group < high {
+        group - 1
+    } else {
+        group
     }
 }
 

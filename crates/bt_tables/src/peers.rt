@@ -1,11 +1,11 @@
 //! The rows of all peers.
 
-ghost use Rattle.std.specs.Prelude.{◌≡◌, ◌≢◌, ◌<◌, ◌≤◌, ◌+◌, ◌==◌, [], ℕ, false, length, slice_index_or, IfOk, EachIndex};
+ghost use Rattle.std.specs.Prelude.{◌≡◌, ◌≢◌, ◌<◌, ◌≤◌, ◌+◌, ◌==◌, [], ℕ, false, true, length, slice_index_or, IfOk, EachIndex};
 ghost use Rattle.bt_meta.specs.WireBits.{FindsFirst};
 ghost use Rattle.bt_history.specs.Counting.{any_below, count_below, table};
 ghost use Rattle.bt_history.specs.Peers.{has_place};
 ghost use Rattle.bt_tables.specs.declared.peer.Dealing.TheVariants.{Heard};
-ghost use Rattle.bt_tables.specs.Showing.{dealings};
+ghost use Rattle.bt_tables.specs.Showing.{AreSet, dealings};
 ghost use Rattle.bt_tables.specs.Tables.{alone_row, bits_row, delay_row, expects_at, is_late_at, noted_row, edit, fresh_peer, have_row, join_row, lack_row, leave_row};
 ghost use Rattle.bt_tables.specs.Tables.{HasShortLines, peer_row, request_row, without_block};
 
@@ -100,6 +100,14 @@ impl Peers {
         ensures { FindsFirst (λ p. slice_index_or (peer_row self.now worker).shows p false) piece result }
     {
         self.shows.first_from(worker, piece)
+    }
+
+    /// Whether the worker's peer shows each piece.
+    pub fn shows_all(&self, worker: u32) -> bool
+        requires { worker < length self.now }
+        ensures { result ≡ true → AreSet (peer_row self.now worker).shows }
+    {
+        self.shows.has_all(worker)
     }
 
     /// The peer joins: what an earlier one told or was asked is gone.

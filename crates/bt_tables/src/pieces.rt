@@ -1,12 +1,13 @@
 //! The rows of all pieces.
 
-ghost use Rattle.std.specs.Prelude.{◌≡◌, ◌<◌, ◌≤◌, ◌+◌, ◌^◌, ℕ, true, false, length, IfOk, map, min, if◌then◌else◌};
+ghost use Rattle.std.specs.Prelude.{◌≡◌, ◌<◌, ◌≤◌, ◌+◌, ◌-◌, ◌^◌, ℕ, EachIndex, true, false, length, IfOk, map, min, if◌then◌else◌};
 ghost use Rattle.std.specs.List.{count_by, sum_by};
 ghost use Rattle.bt_meta.specs.Layout.{block_count, piece_count};
-ghost use Rattle.bt_tables.specs.Orders.{at, ListsGroup, NoneBetween, SomeBetween};
+ghost use Rattle.bt_tables.specs.Orders.{at, AreMoved, ListsGroup, NoneBetween, SomeBetween};
 ghost use Rattle.bt_tables.specs.Risings.{IsRising};
 ghost use Rattle.bt_tables.specs.Floors.{NoneFresh, rank_of_row};
-ghost use Rattle.bt_tables.specs.Standings.{ListsOpen, TellsRest, apart, group_number, group_of_row, standing_of};
+ghost use Rattle.bt_history.specs.declared.rules.TheConstants.{MOST_LEVEL};
+ghost use Rattle.bt_tables.specs.Standings.{ListsOpen, NoneCrowded, TellsRest, apart, group_number, group_of_row, standing_of};
 ghost use Rattle.bt_history.specs.Counting.{table};
 ghost use Rattle.bt_tables.specs.Tables.{HasRoomOf, changed_row, edit, fresh_piece, less_available, more_available, piece_row};
 
@@ -223,6 +224,31 @@ impl Pieces {
         self.shelf.lower(piece, u32::from(shown_by));
     }
 
+    /// One peer more shows each piece. The pieces of a group stay together, so this is a step for each piece, and no piece changes its place.
+    pub fn show_each(&mut self)
+        requires few { EachIndex self.old (λ p. (piece_row self.old p).availability + 1 < 2 ^ 16) }
+        ensures { self.new ≡ table (length self.old) (λ p. more_available true (piece_row self.old p)) }
+    {
+        count_up(&mut self.shown_by);
+        self.shelf.raise_all();
+    }
+
+    /// One peer less shows each piece, where so many do. Pieces that `CROWD` peers or more show share a group, and part then one by one.
+    pub fn hide_each(&mut self)
+        requires few { NoneCrowded MOST_LEVEL (map group_of_row self.old) }
+        ensures { self.new ≡ table (length self.old) (λ p. less_available true (piece_row self.old p)) }
+    {
+        count_down(&mut self.shown_by);
+        self.shelf.lower_all();
+    }
+
+    /// Whether an unbegun piece is shown by `CROWD` peers or more.
+    pub fn is_crowded(&self) -> bool
+        ensures { result ≡ false → NoneCrowded MOST_LEVEL (map group_of_row self.now) }
+    {
+        self.shelf.is_crowded()
+    }
+
     /// A peer tells that it has the piece no more, which it showed before, or didn't.
     pub fn withdraw(&mut self, piece: u32, was_shown: bool)
         requires { piece < length self.old }
@@ -251,4 +277,23 @@ fn front_with(front: u32, piece: u32, fresh: bool) -> u32
     ensures { result ≡ (if fresh then min front piece else front) }
 {
     if fresh { front.min(piece) } else { front }
+}
+
+/// One more in each count.
+fn count_up(counts: &mut [u16])
+    requires { EachIndex counts.old (λ p. at counts.old p + 1 < 2 ^ 16) }
+    ensures { AreMoved (λ n. n + 1) counts.old counts.new }
+{
+    for piece in 0..counts.len() {
+        counts[piece] += 1;
+    }
+}
+
+/// One less in each count, or none.
+fn count_down(counts: &mut [u16])
+    ensures { AreMoved (λ n. n - 1) counts.old counts.new }
+{
+    for piece in 0..counts.len() {
+        counts[piece] = counts[piece].saturating_sub(1);
+    }
 }

@@ -1,15 +1,17 @@
 //! How all pieces stand to each other: in groups, in the list of the open ones, and in sums.
 
 ghost use Rattle.std.specs.Prelude.{◌≡◌, ◌<◌, ◌≤◌, ◌+◌, ◌-◌, ◌^◌, true, false, length, replicate, slice_set, slice_index_or, IfOk};
-ghost use Rattle.bt_tables.specs.Orders.{at, ListsGroup, NoneBetween, SomeBetween};
+ghost use Rattle.bt_tables.specs.Orders.{at, AreMoved, ListsGroup, NoneBetween, SomeBetween, lowered_between, raised_between};
 ghost use Rattle.bt_tables.specs.Risings.{IsRising};
 ghost use Rattle.bt_tables.specs.Rows.{amount_of};
 ghost use Rattle.bt_tables.specs.Tables.{one_if};
-ghost use Rattle.bt_tables.specs.Standings.{IsFiled, ListsOpen, ShelfState, lowered_group, raised_group, refiled};
+ghost use Rattle.bt_tables.specs.Standings.{IsFiled, ListsOpen, NoneCrowded, ShelfState, lowered_group, lowered_in, raised_group, raised_in, refiled};
+ghost use Rattle.bt_history.specs.declared.rules.TheConstants.{MOST_LEVEL};
 
 use crate::order::Order;
 use crate::piece::{CROWD, GROUPS, SPAN, Standing, UNBEGUN, is_open};
 use crate::rising::Rising;
+use bt_history::MOST_LEVEL;
 use std::alloc::{AllocError, Global};
 use std::marker::Model;
 
@@ -162,6 +164,39 @@ impl Shelf {
         }
     }
 
+    /// One peer more shows each piece: the unbegun ones move to the next group, level by level.
+    pub fn raise_all(&mut self)
+        ensures groups { AreMoved (raised_in MOST_LEVEL) self.old.groups self.new.groups }
+        ensures rest { self.new ≡ record self.old { groups = self.new.groups } }
+    {
+        for slot in 0..u32::from(MOST_LEVEL) {
+            raise_slot(&mut self.order, slot * SPAN);
+        }
+    }
+
+    /// One peer less shows each piece: the unbegun ones that some peer showed move to the group before, level by level.
+    pub fn lower_all(&mut self)
+        ensures groups { AreMoved (lowered_in MOST_LEVEL) self.old.groups self.new.groups }
+        ensures rest { self.new ≡ record self.old { groups = self.new.groups } }
+    {
+        for slot in 0..u32::from(MOST_LEVEL) {
+            lower_slot(&mut self.order, slot * SPAN);
+        }
+    }
+
+    /// Whether an unbegun piece is shown by `CROWD` peers or more.
+    pub fn is_crowded(&self) -> bool
+        ensures { result ≡ false → NoneCrowded MOST_LEVEL self.now.groups }
+    {
+        for slot in 0..u32::from(MOST_LEVEL) {
+            let behind = (slot + 1) * SPAN;
+            if !self.order.has_none(behind - 1, behind) {
+                return true;
+            }
+        }
+        false
+    }
+
     /// A piece that stood like this stands like that now.
     #[inline(always)]
     pub fn put(&mut self, piece: u32, before: Standing, after: Standing)
@@ -225,5 +260,33 @@ impl Shelf {
             self.open_pieces.put(piece, opens);
         }
         self.order.put(piece, after);
+    }
+}
+
+/// The unbegun pieces of the level whose groups begin there move to the next group, but for those of the last.
+fn raise_slot(order: &mut Order, first: u32)
+    requires slot { first + SPAN ≤ GROUPS }
+    requires count { order.old.count ≡ GROUPS }
+    ensures count { order.new.count ≡ order.old.count }
+    ensures groups { AreMoved (raised_between (first + UNBEGUN) (first + SPAN - 1)) order.old.group_of order.new.group_of }
+{
+    let low = first + UNBEGUN;
+    let high = first + SPAN - 1;
+    if !order.has_none(low, high) {
+        order.raise_between(low, high);
+    }
+}
+
+/// The unbegun pieces of the level whose groups begin there move to the group before, but for those of the first.
+fn lower_slot(order: &mut Order, first: u32)
+    requires slot { first + SPAN ≤ GROUPS }
+    requires count { order.old.count ≡ GROUPS }
+    ensures count { order.new.count ≡ order.old.count }
+    ensures groups { AreMoved (lowered_between (first + UNBEGUN + 1) (first + SPAN)) order.old.group_of order.new.group_of }
+{
+    let low = first + UNBEGUN + 1;
+    let high = first + SPAN;
+    if !order.has_none(low, high) {
+        order.lower_between(low, high);
     }
 }

@@ -1,10 +1,10 @@
 //! The pieces that each peer shows.
 
-ghost use Rattle.std.specs.Prelude.{◌≡◌, ◌<◌, ◌+◌, ◌-◌, ◌*◌, ◌%◌, ◌^◌, ◌==◌, ℕ, true, false, length, replicate, slice_index_or, slice_set, IfOk};
+ghost use Rattle.std.specs.Prelude.{◌≡◌, ◌<◌, ◌+◌, ◌-◌, ◌*◌, ◌%◌, ◌^◌, ◌==◌, ◌≤◌, ℕ, true, false, length, replicate, slice_index_or, slice_set, IfOk};
 ghost use Rattle.std.specs.Int.{bit_at};
 ghost use Rattle.bt_meta.specs.WireBits.{FindsFirst, wire_bit};
 ghost use Rattle.bt_history.specs.Counting.{table};
-ghost use Rattle.bt_tables.specs.Showing.{flags_at};
+ghost use Rattle.bt_tables.specs.Showing.{AreSet, flags_at};
 ghost use Rattle.bt_tables.specs.Stripes.{stripe};
 ghost use Rattle.bt_tables.specs.Tables.{edit};
 
@@ -68,6 +68,29 @@ impl Shows {
         bit(self.stripes.byte(worker, piece as usize / 8), piece)
     }
 
+    /// Whether the worker's peer shows each piece.
+    pub fn has_all(&self, worker: u32) -> bool
+        requires { worker < length self.now }
+        ensures { result ≡ true → AreSet (flags_at self.now worker) }
+    {
+        let bytes = self.pieces / 8;
+        are_ones(&self.stripes, worker, bytes as usize) && self.has_from(worker, 8 * bytes)
+    }
+
+    /// Whether the worker's peer shows each piece from this one on.
+    fn has_from(&self, worker: u32, from: u32) -> bool
+        requires { worker < length self.now }
+        ensures { result ≡ true → (p : ℕ) → from ≤ p → p < length (flags_at self.now worker)
+            → slice_index_or (flags_at self.now worker) p false ≡ true }
+    {
+        for piece in from..self.pieces {
+            if !self.has(worker, piece) {
+                return false;
+            }
+        }
+        true
+    }
+
     /// The worker's peer shows the piece too.
     pub fn set(&mut self, worker: u32, piece: u32)
         requires worker { worker < length self.old }
@@ -128,6 +151,20 @@ fn bit(byte: u8, piece: u32) -> bool
     ensures { result ≡ (bit_at byte (7 - piece % 8) == 1) }
 {
     (byte >> (7 - piece % 8)) & 1 == 1
+}
+
+/// Whether each bit of the first so many bytes of the row is set.
+fn are_ones(stripes: &Stripes, row: u32, count: usize) -> bool
+    requires row { row < length stripes.now }
+    requires count { count ≤ length (stripe stripes.now row) }
+    ensures { result ≡ true → (p : ℕ) → p < 8 * count → wire_bit (stripe stripes.now row) p ≡ true }
+{
+    for place in 0..count {
+        if stripes.byte(row, place) != u8::MAX {
+            return false;
+        }
+    }
+    true
 }
 
 /// The place of the first bit of the row that is set from this place on.

@@ -9,6 +9,7 @@ ghost use Rattle.bt_tables.specs.Tables.{AreCounted, edit, hidden_rows, less_ava
 ghost use Rattle.bt_tables.specs.Tables.{level_row, levelled_by, recounted, shown_rows, wanted_level};
 
 use crate::floors::Floors;
+use crate::full::has_all;
 use crate::line::Line;
 use crate::peers::Peers;
 use crate::piece::Change;
@@ -33,6 +34,18 @@ fn hide_all(pieces: &mut Pieces, peers: &Peers, worker: u32)
     requires { worker < length peers.now }
     ensures { pieces.new ≡ hidden_rows (peer_row peers.now worker).shows pieces.old }
 {
+    if pieces.len() <= peers.pieces() as usize && peers.shows_all(worker) && !pieces.is_crowded() {
+        pieces.hide_each();
+    } else {
+        hide_shown(pieces, peers, worker);
+    }
+}
+
+/// The same, piece by piece.
+fn hide_shown(pieces: &mut Pieces, peers: &Peers, worker: u32)
+    requires { worker < length peers.now }
+    ensures { pieces.new ≡ hidden_rows (peer_row peers.now worker).shows pieces.old }
+{
     let mut from = 0;
     while from < peers.pieces() {
         match peers.first_shown(worker, from) {
@@ -47,6 +60,18 @@ fn hide_all(pieces: &mut Pieces, peers: &Peers, worker: u32)
 
 /// A peer that showed nothing shows the pieces of the set.
 fn show_all(pieces: &mut Pieces, flags: &Bitfield)
+    requires { AreCounted (shown_rows flags.now pieces.old) }
+    ensures { pieces.new ≡ shown_rows flags.now pieces.old }
+{
+    if pieces.len() <= flags.count() as usize && has_all(flags) {
+        pieces.show_each();
+    } else {
+        show_shown(pieces, flags);
+    }
+}
+
+/// The same, piece by piece.
+fn show_shown(pieces: &mut Pieces, flags: &Bitfield)
     requires { AreCounted (shown_rows flags.now pieces.old) }
     ensures { pieces.new ≡ shown_rows flags.now pieces.old }
 {

@@ -3,7 +3,7 @@ use Rattle.std.specs.Prelude.{slice_index_or}
 use Rattle.bt_history.specs.Counting.{table}
 use Rattle.bt_tables.specs.Tables.{peer_row, piece_row, less_available}
 use Rattle.bt_tables.proofs.Tabled.{upto}
-use Rattle.bt_tables.proofs.sweep.hide_all.Given as goal
+use Rattle.bt_tables.proofs.sweep.hide_shown.Given as goal
 
 abbrev pub invariant-loop-from : goal.invariant-loop-from
 invariant-loop-from l =

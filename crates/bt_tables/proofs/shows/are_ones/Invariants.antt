@@ -1,0 +1,7 @@
+use Rattle.std.proofs.Common.{◌≡◌, ◌*◌, ◌<◌, ℕ, true}
+use Rattle.bt_meta.specs.WireBits.{wire_bit}
+use Rattle.bt_tables.specs.Stripes.{stripe}
+use Rattle.bt_tables.proofs.shows.are_ones.Given as goal
+
+abbrev pub invariant-loop-place : goal.invariant-loop-place
+invariant-loop-place l = (p : ℕ) → p < 8 * l.place → wire_bit (stripe l.stripes l.row) p ≡ true
