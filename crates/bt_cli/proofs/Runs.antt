@@ -1,13 +1,12 @@
 -- What is told of a run.
 use Rattle.std.proofs.Common.{true, ◌≡◌, ◌<◌, ◌+◌, ℕ, Bool, false, List, [], ◌∷◌, ◌++◌, length, map, take, drop, slice_index_or, refl, sym, ap, ◌∙◌}
-use Rattle.std.proofs.Common.{subst, append_assoc, append-nil, arith, inl, inr, Ok, Err, Result}
-use Rattle.std.specs.Prelude.{codes, reverse, IsOk, IfOk, IfErr}
+use Rattle.std.proofs.Common.{subst, arith, inl, inr, Ok, Err, Result}
+use Rattle.std.specs.Prelude.{reverse, IsOk, IfOk, IfErr}
 use Rattle.std.proofs.lemmas.List.{take_more, map-append, reverse-append, take-append-drop}
 use Rattle.bt_picker.specs.Audits.{IsFirstWrong}
 use Rattle.bt_picker.specs.Contents.{has_wanted}
 use Rattle.bt_picker.specs.Positions.{DeskState}
 use Rattle.bt_history.specs.declared.call.Entry.{Entry}
-use Rattle.bt_history.specs.declared.event.Event.{Event}
 use Rattle.bt_history.specs.Entries.{event_of, history_of}
 use Rattle.bt_history.specs.History.{History}
 use Rattle.bt_history.specs.Legal.{IsLegal, IsAllowed}

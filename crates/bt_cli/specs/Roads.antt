@@ -1,5 +1,5 @@
 -- How the program ends a command that came to an end of its own.
-use Rattle.std.specs.Prelude.{◌≡◌, ◌⊎◌, ℕ, Bool, true, false, List, Option, Result, Ok, Err, IfOk, IfErr, IsOk, OnOk}
+use Rattle.std.specs.Prelude.{◌≡◌, ◌⊎◌, ℕ, Bool, true, false, List, Option, Result, Err, IfOk, IfErr, IsOk, OnOk}
 use Rattle.std.specs.Io.KnownBytes.{Keeps}
 use Rattle.bt_text.specs.declared.fault.Fault.{Fault}
 use Rattle.bt_picker.specs.Positions.{DeskState}

@@ -22,15 +22,15 @@ use bt_text::{Fault, MOST_DEPTH, explain_line, print};
 use clap::ArgMatches;
 use clap::error::ErrorKind;
 use std::alloc::Global;
-use std::io::{BufReader, BufWriter, Read, Write};
-use std::rt::Runtime;
+use std::fs::Files;
+use std::io::{BufReader, BufWriter, Input, Read, Write};
 use std::sync::Wait;
 use std::thread::Threads;
 use std::{fs, io};
 
 /// Does what the command line says, its first word being the program's name, prints to `out`, tells a failure on `err`, and answers the exit
 /// status. Behind the line of a failure stands what there is more to say, in words.
-pub fn obey<R: Runtime + AllocGlobal + Threads + Wait + Sync, O: Write + Drop, E: Write>(
+pub fn obey<R: Files + Input + AllocGlobal + Threads + Wait + Sync, O: Write + Drop, E: Write>(
     rt: &R,
     words: &[String],
     out: O,
@@ -53,7 +53,7 @@ where
 }
 
 /// Executes the command that the arguments say, with a buffer before its output.
-fn execute<'w, R: Runtime + AllocGlobal + Threads + Wait + Sync, O: Write + Drop, E: Sink>(
+fn execute<'w, R: Files + Input + AllocGlobal + Threads + Wait + Sync, O: Write + Drop, E: Sink>(
     rt: &R,
     words: &'w [String],
     out: O,
@@ -70,7 +70,7 @@ where
 }
 
 /// Executes the command that the arguments say.
-fn execute_to<'w, R: Runtime + AllocGlobal + Threads + Wait + Sync, O: Write + Drop, E: Sink>(
+fn execute_to<'w, R: Files + Input + AllocGlobal + Threads + Wait + Sync, O: Write + Drop, E: Sink>(
     rt: &R,
     words: &'w [String],
     out: &mut Device<O>,
@@ -87,7 +87,12 @@ where
 }
 
 /// Executes the command that was found.
-fn execute_command<'w, R: Runtime + AllocGlobal + Threads + Wait + Sync, O: Write + Drop, E: Sink>(
+fn execute_command<
+    'w,
+    R: Files + Input + AllocGlobal + Threads + Wait + Sync,
+    O: Write + Drop,
+    E: Sink,
+>(
     rt: &R,
     matches: &ArgMatches<'w>,
     out: &mut Device<O>,
@@ -125,7 +130,7 @@ fn explain<'w, O: Write + Drop, E: Sink>(
 }
 
 /// The command `info`.
-fn info<'w, R: Runtime + AllocGlobal, O: Write + Drop, E: Sink>(
+fn info<'w, R: Files + AllocGlobal, O: Write + Drop, E: Sink>(
     rt: &R,
     arguments: &ArgMatches<'w>,
     out: &mut Device<O>,
@@ -154,7 +159,7 @@ fn words_of_empty(alloc: Global, meta: &[u8], name: &str) -> Option<String> {
 }
 
 /// The command `script`; of a line at fault there is more to tell than its number.
-fn script<'w, R: Runtime + AllocGlobal, O: Write + Drop>(
+fn script<'w, R: Input + AllocGlobal, O: Write + Drop>(
     rt: &R,
     out: &mut Device<O>,
     more: &mut Option<String>,
@@ -168,7 +173,7 @@ fn script<'w, R: Runtime + AllocGlobal, O: Write + Drop>(
 }
 
 /// All of standard input.
-fn read_input<R: Runtime + AllocGlobal>(rt: &R) -> io::Result<Vec<u8>> {
+fn read_input<R: Input + AllocGlobal>(rt: &R) -> io::Result<Vec<u8>> {
     all_of(rt.alloc(), BufReader::new(rt.alloc(), rt.reader())?)
 }
 
@@ -182,12 +187,12 @@ fn all_of<R: Read + Drop>(alloc: Global, mut reader: R) -> io::Result<Vec<u8>>
 }
 
 /// All of a file.
-fn read<'w, R: Runtime + AllocGlobal>(rt: &R, path: &'w str) -> Result<Vec<u8>, Failure<'w>> {
+fn read<'w, R: Files + AllocGlobal>(rt: &R, path: &'w str) -> Result<Vec<u8>, Failure<'w>> {
     fs::read(rt, path).map_err(|e| Failure::of_file(path, e))
 }
 
 /// The command `serial`.
-fn serial<'w, R: Runtime + AllocGlobal, O: Write + Drop, E: Sink>(
+fn serial<'w, R: Files + AllocGlobal, O: Write + Drop, E: Sink>(
     rt: &R,
     arguments: &ArgMatches<'w>,
     out: &mut Device<O>,
@@ -208,7 +213,7 @@ fn serial<'w, R: Runtime + AllocGlobal, O: Write + Drop, E: Sink>(
 }
 
 /// The options that fit, or what is wrong with them, before anything is read or written.
-fn judged<'w, R: Runtime + AllocGlobal>(
+fn judged<'w, R: Files + AllocGlobal>(
     rt: &R,
     asked: &Asked<'w>,
     streams: &[&str],
@@ -233,7 +238,7 @@ fn judged<'w, R: Runtime + AllocGlobal>(
 }
 
 /// The file of `--out`, where one is asked for; it isn't made yet.
-fn target_of<'f, 'w, R: Runtime>(
+fn target_of<'f, 'w, R: Files>(
     rt: &'f R,
     out: Option<&'w str>,
 ) -> Option<Target<'w, OutFile<'f, 'w, R>>>
@@ -249,7 +254,7 @@ fn target_of<'f, 'w, R: Runtime>(
 }
 
 /// Runs the streams' sessions in one thread.
-fn run_in_turns<'w, R: Runtime + AllocGlobal, O: Write + Drop>(
+fn run_in_turns<'w, R: Files + AllocGlobal, O: Write + Drop>(
     rt: &R,
     asked: &Asked<'w>,
     streams: &[&'w str],
@@ -276,7 +281,7 @@ fn run_in_turns<'w, R: Runtime + AllocGlobal, O: Write + Drop>(
 }
 
 /// The command `run`.
-fn run<'w, R: Runtime + AllocGlobal + Threads + Wait + Sync, O: Write + Drop, E: Sink>(
+fn run<'w, R: Files + AllocGlobal + Threads + Wait + Sync, O: Write + Drop, E: Sink>(
     rt: &R,
     arguments: &ArgMatches<'w>,
     out: &mut Device<O>,
@@ -300,7 +305,7 @@ where
 }
 
 /// Runs the streams' sessions in threads.
-fn run_at_once<'w, R: Runtime + AllocGlobal + Threads + Wait + Sync, O: Write + Drop>(
+fn run_at_once<'w, R: Files + AllocGlobal + Threads + Wait + Sync, O: Write + Drop>(
     rt: &R,
     asked: &Asked<'w>,
     streams: &[&'w str],

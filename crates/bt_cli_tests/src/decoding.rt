@@ -6,10 +6,11 @@ use bt_meta::Torrent;
 use bt_wire::{Inbound, frame_limit};
 use std::alloc::Global;
 use std::fs;
-use std::rt::Runtime;
+use std::fs::Files;
+use std::io::Print;
 
 /// Prints the messages of a stream by type, for each of the lengths of pieces that it may come in: `META STREAM LEN,LEN..`.
-pub fn decode<R: Runtime + AllocGlobal>(rt: &R, words: &[String]) -> Result<()> {
+pub fn decode<R: Files + Print + AllocGlobal>(rt: &R, words: &[String]) -> Result<()> {
     let [meta, stream, lens] = words else {
         bail!("decode META STREAM LEN,LEN..");
     };
@@ -18,14 +19,14 @@ pub fn decode<R: Runtime + AllocGlobal>(rt: &R, words: &[String]) -> Result<()> 
 }
 
 /// The longest message that a peer of the torrent of this metainfo file sends.
-fn limit_of<R: Runtime + AllocGlobal>(rt: &R, meta: &str) -> Result<u32> {
+fn limit_of<R: Files + AllocGlobal>(rt: &R, meta: &str) -> Result<u32> {
     let meta = fs::read(rt, meta)?;
     let torrent = Torrent::read(rt.alloc(), &meta)?;
     Ok(frame_limit(torrent.piece_count()))
 }
 
 /// The same of the stream of this name.
-fn decode_stream<R: Runtime + AllocGlobal>(
+fn decode_stream<R: Files + Print + AllocGlobal>(
     rt: &R,
     name: &str,
     lens: &str,
@@ -36,7 +37,7 @@ fn decode_stream<R: Runtime + AllocGlobal>(
 }
 
 /// The same of the bytes of the stream with this name.
-fn decode_bytes<R: Runtime + AllocGlobal>(
+fn decode_bytes<R: Print + AllocGlobal>(
     rt: &R,
     name: &str,
     bytes: &[u8],

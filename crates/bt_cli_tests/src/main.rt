@@ -11,8 +11,8 @@ use closed::Closed;
 use decoding::decode;
 use sha1::Sha1;
 use std::alloc::{AllocError, Global};
-use std::io::Write;
-use std::rt::Runtime;
+use std::fs::Files;
+use std::io::{Input, Print, Write};
 use std::sync::Wait;
 use std::thread::Threads;
 use std::{fs, io, str};
@@ -42,7 +42,10 @@ fn words(alloc: Global, line: &str) -> Result<Vec<String>, AllocError> {
 }
 
 /// Does what a line says.
-fn follow<R: Runtime + AllocGlobal + Threads + Wait + Sync>(rt: &R, words: &[String]) -> Result<()>
+fn follow<R: Files + Input + Print + AllocGlobal + Threads + Wait + Sync>(
+    rt: &R,
+    words: &[String],
+) -> Result<()>
 where
     R::File: Send,
 {
@@ -60,7 +63,7 @@ where
 }
 
 /// Prints what a file holds, which is text, or that there is none.
-fn show<R: Runtime + AllocGlobal>(rt: &R, names: &[String]) -> Result<()> {
+fn show<R: Files + Print + AllocGlobal>(rt: &R, names: &[String]) -> Result<()> {
     let Some(bytes) = held(rt, names)? else {
         return say_none(rt);
     };
@@ -70,14 +73,14 @@ fn show<R: Runtime + AllocGlobal>(rt: &R, names: &[String]) -> Result<()> {
 }
 
 /// Prints how many bytes a file holds and their SHA-1, or that there is none.
-fn digest<R: Runtime + AllocGlobal>(rt: &R, names: &[String]) -> Result<()> {
+fn digest<R: Files + Print + AllocGlobal>(rt: &R, names: &[String]) -> Result<()> {
     let Some(bytes) = held(rt, names)? else {
         return say_none(rt);
     };
     say_digest(rt, &bytes)
 }
 
-fn say_digest<R: Runtime + AllocGlobal>(rt: &R, bytes: &[u8]) -> Result<()> {
+fn say_digest<R: Print + AllocGlobal>(rt: &R, bytes: &[u8]) -> Result<()> {
     let len = bytes.len();
     let digest = hex::encode(rt.alloc(), Sha1::digest(bytes).as_slice())?;
     println!(rt; "content bytes {len} sha1 {digest}")?;
@@ -85,7 +88,7 @@ fn say_digest<R: Runtime + AllocGlobal>(rt: &R, bytes: &[u8]) -> Result<()> {
 }
 
 /// What the file of this name holds, if there is one.
-fn held<R: Runtime + AllocGlobal>(rt: &R, names: &[String]) -> Result<Option<Vec<u8>>> {
+fn held<R: Files + AllocGlobal>(rt: &R, names: &[String]) -> Result<Option<Vec<u8>>> {
     let name = names.first().context("a file's name")?;
     match fs::read(rt, name.as_str()) {
         Ok(bytes) => Ok(Some(bytes)),
@@ -94,13 +97,13 @@ fn held<R: Runtime + AllocGlobal>(rt: &R, names: &[String]) -> Result<Option<Vec
     }
 }
 
-fn say_none<R: Runtime + AllocGlobal>(rt: &R) -> Result<()> {
+fn say_none<R: Print>(rt: &R) -> Result<()> {
     println!(rt; "(no such file)")?;
     Ok(())
 }
 
 /// Runs a command with this output, and prints what it tells on standard error, and its status.
-fn run_to<R: Runtime + AllocGlobal + Threads + Wait + Sync, O: Write + Drop>(
+fn run_to<R: Files + Input + Print + AllocGlobal + Threads + Wait + Sync, O: Write + Drop>(
     rt: &R,
     words: &[String],
     out: O,
@@ -118,7 +121,7 @@ where
 }
 
 /// The same, and prints how many bytes the command printed, and their SHA-1.
-fn run_digested<R: Runtime + AllocGlobal + Threads + Wait + Sync>(
+fn run_digested<R: Files + Input + Print + AllocGlobal + Threads + Wait + Sync>(
     rt: &R,
     words: &[String],
 ) -> Result<()>
@@ -130,7 +133,7 @@ where
     say_digest(rt, &printed)
 }
 
-fn run_quietly<R: Runtime + AllocGlobal + Threads + Wait + Sync>(
+fn run_quietly<R: Files + Input + Print + AllocGlobal + Threads + Wait + Sync>(
     rt: &R,
     words: &[String],
 ) -> Result<()>

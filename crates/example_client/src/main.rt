@@ -17,7 +17,7 @@ use rand_core::Rng;
 use rand_pcg::Lcg64Xsh32;
 use sha1::Sha1;
 use std::alloc::Global;
-use std::rt::Runtime;
+use std::io::Print;
 use std::sync::Arc;
 use store::Store;
 
@@ -58,12 +58,7 @@ fn torrent_of(alloc: Global, content: &[u8]) -> Result<Torrent>
 }
 
 /// Prints how the download stands, and the hash of what is stored.
-fn tell<R: Runtime + AllocGlobal>(
-    rt: &R,
-    keeper: &Keeper,
-    peer: &Peer,
-    store: &Store,
-) -> Result<()> {
+fn tell<R: Print + AllocGlobal>(rt: &R, keeper: &Keeper, peer: &Peer, store: &Store) -> Result<()> {
     let asked = peer.asked();
     let complete = keeper.picker().is_complete();
     println!(rt; "asked for {asked} blocks, complete: {complete}")?;

@@ -2,8 +2,8 @@
 #![tactic(auto)]
 
 use bt_cli::{Failure, ToWrite, WRONG_ARGUMENTS, conclude, obey};
+use std::env::Env;
 use std::process::ExitCode;
-use std::rt::Runtime;
 use std::{env, io};
 
 fn main(rt: HostRuntime) -> ExitCode {
@@ -24,7 +24,7 @@ fn main(rt: HostRuntime) -> ExitCode {
 }
 
 /// The words of the command line; none where one isn't UTF-8.
-fn words<R: Runtime + AllocGlobal>(rt: &R) -> io::Result<Option<Vec<String>>> {
+fn words<R: Env + AllocGlobal>(rt: &R) -> io::Result<Option<Vec<String>>> {
     match env::args(rt) {
         Ok(words) => Ok(Some(words.collect(rt.alloc())?)),
         Err(error) if error.kind() == io::ErrorKind::InvalidData => Ok(None),
