@@ -1,5 +1,5 @@
 //! The picker behind a handle, by what it keeps.
-ghost use Rattle.std.specs.Prelude.{◌≡◌, ◌≢◌, ◌<◌, ◌≤◌, [], ℕ, true, IfOk, OnErr};
+ghost use Rattle.std.specs.Prelude.{◌≡◌, ◌<◌, ◌≤◌, [], ℕ, true, IfOk, OnErr};
 ghost use Rattle.bt_history.specs.Setting.{AreRules, setting_of};
 ghost use Rattle.bt_picker.specs.Positions.{Gains};
 ghost use Rattle.bt_picker.specs.Told.{action_told, telling};
@@ -157,37 +157,28 @@ impl Engine {
     {
         match self {
             Engine::Picker(picker) => Ok(picker.tell(worker, told)),
-            Engine::Keeper(keeper) => tell_keeper(alloc, keeper, worker, told),
-            Engine::Desk(desk) => tell_desk(alloc, desk, worker, told),
+            _ => self.tell_kept(alloc, worker, told),
         }
     }
-}
 
-/// What a keeper answers. Out of line, since room for results is cleared where a function begins.
-#[inline(never)]
-fn tell_keeper(
-    alloc: Global,
-    keeper: &mut Keeper,
-    worker: u32,
-    told: Told<'_>,
-) -> Result<Reply, Untold>
-    requires { worker < keeper.old.setting.workers }
-    ensures ok { IfOk result (λ reply. Gains keeper.old keeper.new (telling worker told.entry reply)) }
-    ensures err { OnErr result (keeper.new ≡ keeper.old) }
-    ensures short { result ≡ Err Untold.NoMemory → TakesMemory keeps.Begun (action_told told.entry) }
-    ensures journal { result ≢ Err Untold.Journal }
-{
-    Ok(keeper.tell(alloc, worker, told)?)
-}
-
-/// What a desk answers.
-#[inline(never)]
-fn tell_desk(alloc: Global, desk: &mut Desk, worker: u32, told: Told<'_>) -> Result<Reply, Untold>
-    requires { worker < desk.old.setting.workers }
-    ensures ok { IfOk result (λ reply. Gains desk.old desk.new (telling worker told.entry reply)) }
-    ensures err { OnErr result (desk.new ≡ desk.old) }
-    ensures journal { result ≡ Err Untold.Journal → is_loss (action_told told.entry) ≡ true }
-{
-    let call = owned(alloc, told)?;
-    Ok(desk.call(worker, call)?)
+    /// The same, where content is kept. Out of line, since room for results is cleared where a function begins.
+    #[inline(never)]
+    fn tell_kept(&mut self, alloc: Global, worker: u32, told: Told<'_>) -> Result<Reply, Untold>
+        requires worker { worker < (state_of self.old).setting.workers }
+        requires kept { content_kept (keeping_of self.old) ≡ true }
+        ensures ok { IfOk result (λ reply. Gains (state_of self.old) (state_of self.new) (telling worker told.entry reply)) }
+        ensures err { OnErr result (state_of self.new ≡ state_of self.old) }
+        ensures short { result ≡ Err Untold.NoMemory → TakesMemory (keeping_of self.old) (action_told told.entry) }
+        ensures journal { result ≡ Err Untold.Journal → (keeping_of self.old ≡ keeps.Journal) × (is_loss (action_told told.entry) ≡ true) }
+        ensures keeping { keeping_of self.new ≡ keeping_of self.old }
+    {
+        match self {
+            Engine::Picker(_) => unreachable!(),
+            Engine::Keeper(keeper) => Ok(keeper.tell(alloc, worker, told)?),
+            Engine::Desk(desk) => {
+                let call = owned(alloc, told)?;
+                Ok(desk.call(worker, call)?)
+            }
+        }
+    }
 }
