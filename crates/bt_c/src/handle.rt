@@ -3,6 +3,7 @@ ghost use Rattle.std.specs.Prelude.{◌≡◌, None, Some, Option, MatchOption};
 
 use crate::kept::Kept;
 use std::alloc::Global;
+use std::mem::{forget, replace};
 
 /// What C holds of a value on the heap: one pointer, of which C knows nothing. Null holds nothing.
 pub trait Handle: Sized {
@@ -24,7 +25,7 @@ pub trait Handle: Sized {
         ensures shut { holds self.new ≡ None }
     {
         let shut = Self::of_kept(Kept::nothing(alloc));
-        std::mem::replace(self, shut).into_kept().into_box()
+        replace(self, shut).into_kept().into_box()
     }
 }
 
@@ -33,4 +34,13 @@ pub fn holding<H: Handle>(value: Box<H::Behind>) -> H
     ensures { H.holds result ≡ Some value.value }
 {
     H::of_kept(Kept::of(value))
+}
+
+/// Puts the box behind a handle out of which one was taken. What the handle held is null, so nothing is freed.
+#[inline(always)]
+pub fn put_back<H: Handle + Drop>(handle: &mut H, value: Box<H::Behind>)
+    requires { H.holds handle.old ≡ None }
+    ensures { H.holds handle.new ≡ Some value.value }
+{
+    forget(replace(handle, holding(value)));
 }

@@ -9,7 +9,7 @@ ghost use Rattle.bt_c.specs.Outcomes.{StaysItself};
 use crate::check::Check;
 use crate::engine::Engine;
 use crate::fault::Fault;
-use crate::handle::{Handle, holding};
+use crate::handle::{Handle, holding, put_back};
 use crate::held::Held;
 use crate::job_handle::JobHandle;
 use crate::job_pointer::JobPointer;
@@ -111,7 +111,7 @@ impl Held {
     {
         let check = job.take(alloc).ok_or(Fault::NoJob)?;
         let outcome = self.settle_check(&check);
-        *job = holding(check);
+        put_back(job, check);
         outcome
     }
 }
@@ -122,7 +122,7 @@ pub fn hash(alloc: Global, job: &mut JobHandle) -> Result<(), Fault>
 {
     let mut check = job.take(alloc).ok_or(Fault::NoJob)?;
     let done = check.hash(alloc);
-    *job = holding(check);
+    put_back(job, check);
     done
 }
 
@@ -133,7 +133,7 @@ pub fn read(alloc: Global, job: &mut JobHandle, room: &mut [u8]) -> Result<(), F
 {
     let check = job.take(alloc).ok_or(Fault::NoJob)?;
     let done = put_blocks(check.blocks(), room);
-    *job = holding(check);
+    put_back(job, check);
     done
 }
 

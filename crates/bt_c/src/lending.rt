@@ -4,7 +4,7 @@ ghost use Rattle.std.specs.Fn.{FnOnceReturnsAtMut, FnOnceTakesAtMut};
 ghost use Rattle.bt_c.specs.Outcomes.{Lends};
 
 use crate::fault::Fault;
-use crate::handle::{Handle, holding};
+use crate::handle::{Handle, put_back};
 use crate::held::Held;
 use crate::picker_handle::PickerHandle;
 use std::alloc::Global;
@@ -22,6 +22,6 @@ pub fn lend<X, F: FnOnce(&mut Held) -> Result<X, Fault>>(
         return Err(Fault::Closed);
     };
     let outcome = call(&mut held);
-    *picker = holding(held);
+    put_back(picker, held);
     outcome
 }

@@ -6,7 +6,7 @@ ghost use Rattle.bt_c.specs.Outcomes.{AtHandle, Tells};
 use super::tell::{tell, tell_done};
 use crate::answer::Answer;
 use crate::fault::Fault;
-use crate::handle::{Handle, holding};
+use crate::handle::{Handle, put_back};
 use crate::job_handle::JobHandle;
 use crate::job_pointer::JobPointer;
 use crate::jobs::{hash, read};
@@ -26,7 +26,7 @@ fn take_job(
 {
     let held = picker.take(alloc).ok_or(Fault::Closed)?;
     let done = held.take_job(alloc, piece, job);
-    *picker = holding(held);
+    put_back(picker, held);
     done
 }
 
@@ -37,7 +37,7 @@ fn settle(alloc: Global, picker: &mut PickerHandle, job: &mut JobHandle) -> Resu
 {
     let mut held = picker.take(alloc).ok_or(Fault::Closed)?;
     let outcome = held.settle_job(alloc, job);
-    *picker = holding(held);
+    put_back(picker, held);
     outcome
 }
 

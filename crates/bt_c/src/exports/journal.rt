@@ -8,7 +8,7 @@ ghost use Rattle.bt_c.specs.Outcomes.{AtOpen, Tells, TellsDone};
 use super::tell::{tell, tell_done};
 use crate::answer::Answer;
 use crate::fault::Fault;
-use crate::handle::{Handle, holding};
+use crate::handle::{Handle, put_back};
 use crate::lending::lend;
 use crate::picker_handle::PickerHandle;
 use std::alloc::Global;
@@ -26,7 +26,7 @@ fn read(
 {
     let held = picker.take(alloc).ok_or(Fault::Closed)?;
     let done = held.read(piece, buffer);
-    *picker = holding(held);
+    put_back(picker, held);
     done
 }
 

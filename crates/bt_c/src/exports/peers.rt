@@ -9,7 +9,7 @@ ghost use Rattle.bt_c.specs.Outcomes.{AtHandle, Tells};
 use super::tell::tell;
 use crate::answer::Answer;
 use crate::fault::Fault;
-use crate::handle::{Handle, holding};
+use crate::handle::{Handle, put_back};
 use crate::lending::lend;
 use crate::picker_handle::PickerHandle;
 use bt_picker::{Reply, Told, Unseen};
@@ -46,7 +46,7 @@ fn call_in_place(
 {
     let mut held = picker.take(alloc).ok_or(Fault::Closed)?;
     let outcome = held.call(alloc, worker, told);
-    *picker = holding(held);
+    put_back(picker, held);
     outcome
 }
 
@@ -76,7 +76,7 @@ fn call_at_in_place(
 {
     let mut held = picker.take(alloc).ok_or(Fault::Closed)?;
     let outcome = held.call_at(alloc, worker, piece, told);
-    *picker = holding(held);
+    put_back(picker, held);
     outcome
 }
 
@@ -375,6 +375,6 @@ fn receive(
 {
     let mut held = picker.take(alloc).ok_or(Fault::Closed)?;
     let outcome = held.receive(worker, piece, begin, bytes, len);
-    *picker = holding(held);
+    put_back(picker, held);
     outcome
 }

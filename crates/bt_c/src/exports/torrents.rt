@@ -7,7 +7,7 @@ ghost use Rattle.bt_c.specs.Torrents.{PutsBytes, PutsHash, PutsIfAny, PutsInfoha
 use super::tell::{tell_done, tell_large};
 use crate::digest::Digest;
 use crate::fault::Fault;
-use crate::handle::{Handle, holding};
+use crate::handle::{Handle, put_back};
 use crate::picker_handle::PickerHandle;
 use crate::torrents::TorrentQuestion;
 use std::alloc::Global;
@@ -19,7 +19,7 @@ fn ask(alloc: Global, picker: &mut PickerHandle, question: TorrentQuestion) -> R
 {
     let held = picker.take(alloc).ok_or(Fault::Closed)?;
     let outcome = held.ask_of_torrent(question);
-    *picker = holding(held);
+    put_back(picker, held);
     outcome
 }
 
@@ -31,7 +31,7 @@ fn put_name(alloc: Global, picker: &mut PickerHandle, buffer: &mut [u8]) -> Resu
 {
     let held = picker.take(alloc).ok_or(Fault::Closed)?;
     let done = held.put_name(buffer);
-    *picker = holding(held);
+    put_back(picker, held);
     done
 }
 
@@ -49,7 +49,7 @@ fn put_part(
 {
     let held = picker.take(alloc).ok_or(Fault::Closed)?;
     let done = held.put_part(file, part, buffer);
-    *picker = holding(held);
+    put_back(picker, held);
     done
 }
 
@@ -61,7 +61,7 @@ fn put_infohash(alloc: Global, picker: &mut PickerHandle, digest: &mut Digest) -
 {
     let held = picker.take(alloc).ok_or(Fault::Closed)?;
     digest.bytes = *held.torrent.infohash();
-    *picker = holding(held);
+    put_back(picker, held);
     Ok(())
 }
 
@@ -78,7 +78,7 @@ fn put_hash(
 {
     let held = picker.take(alloc).ok_or(Fault::Closed)?;
     let done = held.put_hash(piece, digest);
-    *picker = holding(held);
+    put_back(picker, held);
     done
 }
 
