@@ -1,11 +1,12 @@
 -- Rows of bytes as the bitfields that they spell: what one of them tells, and what a row that changes makes of them.
-use Rattle.std.proofs.Common.{◌≡◌, ℕ, zero, suc, ◌<◌, ◌^◌, Bool, false, List, [], ◌∷◌, length, get_or, map, replicate, ap, sym, ◌∙◌, subst, arith}
-use Rattle.std.proofs.lemmas.List.{get_or-map, get_or_past, length-map}
+use Rattle.std.proofs.Common.{◌≡◌, ℕ, zero, suc, ◌<◌, ◌^◌, Bool, true, false, List, [], ◌∷◌, length, get_or, set, map, replicate, refl, ap, sym, ◌∙◌}
+use Rattle.std.proofs.Common.{subst, arith}
+use Rattle.std.proofs.lemmas.List.{get_or-map, get_or_past, get_or-set_other, get_or-set_same, length-map, length-replicate, length-set}
 use mathlib.Core.Logic.{dite}
 use native.Mathlib.Decide.{ℕ_discrete}
 use Rattle.bt_meta.specs.WireBits.{IsPayload, IsSpelled, flags_of, wire_len}
 use Rattle.bt_meta.proofs.Payloads.{length_flags, zero_flags, zero_payload}
-use Rattle.bt_tables.specs.Showing.{ArePayloads, flags_at, spelled_rows}
+use Rattle.bt_tables.specs.Showing.{ArePayloads, AreShown, AreUnset, flags_at, spelled_rows}
 use Rattle.bt_tables.specs.Stripes.{stripe}
 use Rattle.bt_tables.specs.Tables.{edit}
 use Rattle.bt_tables.proofs.Tabled.{get_or_edit_other, get_or_edit_same, get_or_table, length_edit, length_table, map_table, same_table}
@@ -46,6 +47,47 @@ payloads_edit pieces rows w f payloads lw here v lv = dite (ℕ_discrete v w)
     (subst (IsPayload pieces) (sym (get_or_edit_same rows w f [] lw)) here))
     (λ other. subst (IsPayload pieces) (sym (get_or_edit_other rows w v f [] other)) (payloads v (omega (arith, lv, length_edit rows w f))))
 
+-- a row changes, and with it whether its peer is said to show nothing
+pub shown_edit : (pieces : ℕ) (rows : List (List ℕ)) (empty : List Bool) (w : ℕ) (f : List ℕ → List ℕ) (is : Bool) → AreShown pieces rows empty
+    → w < length rows → IsPayload pieces (f (stripe rows w)) → (is ≡ true → AreUnset (flags_of pieces (f (stripe rows w))))
+    → AreShown pieces (edit rows w f) (set empty w is)
+shown_edit pieces rows empty w f is are lw payload none = record {
+  payloads = payloads_edit pieces rows w f are.payloads lw payload;
+  each = length-set empty w is ∙ (are.each ∙ sym (length_edit rows w f));
+  none = λ v d lv says. dite (ℕ_discrete v w)
+      (λ same. subst (λ (u : ℕ). AreUnset (flags_of pieces (stripe (edit rows w f) u))) (sym same)
+      (subst (λ (row : List ℕ). AreUnset (flags_of pieces row)) (sym (get_or_edit_same rows w f [] lw))
+      (none (sym (get_or-set_same empty w is d (omega (arith, lw, are.each))) ∙ (ap (λ (u : ℕ). get_or (set empty w is) u d) (sym same) ∙ says)))))
+      (λ other. subst (λ (row : List ℕ). AreUnset (flags_of pieces row)) (sym (get_or_edit_other rows w v f [] other))
+      (are.none v d (omega (arith, lv, length_edit rows w f)) (sym (get_or-set_other empty w v is d other) ∙ says)));
+}
+
+-- no flag is set
+pub none_set : (n : ℕ) → AreUnset (replicate n false)
+none_set zero p = refl
+none_set (suc n) zero = refl
+none_set (suc n) (suc p) = none_set n p
+
+-- and none is once one more is cleared
+pub none_cleared : (flags : List Bool) (p : ℕ) → AreUnset flags → AreUnset (set flags p false)
+none_cleared [] p none q = none q
+none_cleared (flag ∷ flags) zero none zero = refl
+none_cleared (flag ∷ flags) zero none (suc q) = none (suc q)
+none_cleared (flag ∷ flags) (suc p) none zero = none zero
+none_cleared (flag ∷ flags) (suc p) none (suc q) = none_cleared flags p (λ n. none (suc n)) q
+
+unset_flags_are : (flags : List Bool) → AreUnset flags → flags ≡ replicate (length flags) false
+unset_flags_are [] none = refl
+unset_flags_are (flag ∷ flags) none =
+    ap (λ (x : Bool). x ∷ flags) (none zero) ∙ ap (λ (l : List Bool). false ∷ l) (unset_flags_are flags (λ p. none (suc p)))
+
+-- a peer that shows nothing has no flag to clear
+pub cleared_before : (shows : List (List Bool)) (w : ℕ) → AreUnset (flags_at shows w)
+    → shows ≡ edit shows w (λ flags. replicate (length flags) false)
+cleared_before [] w none = refl
+cleared_before (flags ∷ shows) zero none = ap (λ (x : List Bool). x ∷ shows) (unset_flags_are flags none)
+cleared_before (flags ∷ shows) (suc w) none = ap (λ (l : List (List Bool)). flags ∷ l) (cleared_before shows w none)
+
 -- what spells flags is a payload
 pub spelled_payload : (pieces : ℕ) (flags : List Bool) (bytes : List ℕ) → pieces < 2 ^ 32 → length flags ≡ pieces → IsSpelled flags bytes
     → IsPayload pieces bytes
@@ -62,9 +104,21 @@ empty_rows workers pieces width =
     map_table (flags_of pieces) workers (λ w. replicate width 0)
     ∙ same_table workers (λ w. flags_of pieces (replicate width 0)) (λ w. replicate pieces false) (λ w lw. zero_flags pieces width)
 
-pub empty_payloads : (workers pieces width : ℕ) → pieces < 2 ^ 32 → width ≡ wire_len pieces
+empty_payloads : (workers pieces width : ℕ) → pieces < 2 ^ 32 → width ≡ wire_len pieces
     → ArePayloads pieces (table workers (λ w. replicate width 0))
 empty_payloads workers pieces width few is w lw =
     let zeros : ℕ → List ℕ = λ w. replicate width 0 in
     subst (IsPayload pieces) (sym (get_or_table workers zeros w [] (omega (arith, lw, length_table workers zeros))))
     (zero_payload pieces width few is)
+
+pub empty_shown : (workers pieces width : ℕ) → pieces < 2 ^ 32 → width ≡ wire_len pieces
+    → AreShown pieces (table workers (λ w. replicate width 0)) (replicate workers true)
+empty_shown workers pieces width few is =
+    let zeros : ℕ → List ℕ = λ w. replicate width 0 in
+    record {
+      payloads = empty_payloads workers pieces width few is;
+      each = length-replicate workers true ∙ sym (length_table workers zeros);
+      none = λ w d lw says. subst (λ (row : List ℕ). AreUnset (flags_of pieces row))
+          (sym (get_or_table workers zeros w [] (omega (arith, lw, length_table workers zeros))))
+          (subst AreUnset (sym (zero_flags pieces width)) (none_set pieces));
+    }

@@ -86,6 +86,10 @@ pub record ArePeers (rows : List Dealings) (shows : List (List Bool)) (delayed a
 abbrev pub AreSet : List Bool → Type 0
 AreSet flags = (p : ℕ) → p < length flags → slice_index_or flags p false ≡ true
 
+-- no flag is set
+abbrev pub AreUnset : List Bool → Type 0
+AreUnset flags = (p : ℕ) → slice_index_or flags p false ≡ false
+
 -- the pieces that the worker's peer shows
 abbrev pub flags_at : List (List Bool) → ℕ → List Bool
 flags_at shows worker = slice_index_or shows worker []
@@ -97,3 +101,9 @@ spelled_rows pieces rows = map (flags_of pieces) rows
 -- each row is the payload of a bitfield for so many pieces
 abbrev pub ArePayloads : ℕ → List (List ℕ) → Type 0
 ArePayloads pieces rows = (worker : ℕ) → worker < length rows → IsPayload pieces (stripe rows worker)
+
+-- what is kept of the pieces that peers show: payloads, and a peer that is said to show nothing shows none
+pub record AreShown (pieces : ℕ) (rows : List (List ℕ)) (empty : List Bool) : Type 0 where
+  pub payloads : ArePayloads pieces rows
+  pub each : length empty ≡ length rows
+  pub none : (worker : ℕ) (d : Bool) → worker < length rows → slice_index_or empty worker d ≡ true → AreUnset (flags_of pieces (stripe rows worker))

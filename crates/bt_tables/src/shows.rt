@@ -14,23 +14,25 @@ use std::alloc::{AllocError, Global};
 use std::marker::Model;
 
 /// The pieces that each worker's peer shows, a bit each, as the payload of a `bitfield` message spells them (BEP 3). What all peers show
-/// of eight pieces stands side by side: of a piece that was just begun each peer is asked next whether it shows it. Contracts see a list
-/// of flags for each worker.
+/// of eight pieces stands side by side: of a piece that was just begun each peer is asked next whether it shows it. Which peers show nothing
+/// is kept too, so that one which comes and goes before it told anything takes no look at its bits. Contracts see a list of flags for each
+/// worker.
 #[derive(Drop)]
 pub struct Shows {
     pieces: u32,
     stripes: Stripes,
+    empty: Vec<bool>,
 }
 
 impl Model for Shows {
     ghost use Rattle.std.specs.Prelude.{List, Bool, ◌<◌, ◌^◌};
-    ghost use Rattle.bt_tables.specs.Showing.{ArePayloads, spelled_rows};
+    ghost use Rattle.bt_tables.specs.Showing.{AreShown, spelled_rows};
 
     ghost Value = { List (List Bool) };
 
     ghost view = { λ s. spelled_rows s.pieces s.stripes };
 
-    ghost invariant = { λ s. ArePayloads s.pieces s.stripes };
+    ghost invariant = { λ s. AreShown s.pieces s.stripes s.empty.items };
 }
 
 impl Shows {
@@ -41,6 +43,7 @@ impl Shows {
         Ok(Shows {
             pieces,
             stripes: Stripes::new(alloc, workers, pieces.div_ceil(8) as usize)?,
+            empty: vec![in alloc; true; workers as usize]?,
         })
     }
 
@@ -100,6 +103,7 @@ impl Shows {
         let byte = self.stripes.byte(worker, piece as usize / 8);
         self.stripes
             .put(worker, piece as usize / 8, byte | 1 << (7 - piece % 8));
+        self.empty[worker as usize] = false;
     }
 
     /// The worker's peer shows the piece no more.
@@ -118,7 +122,11 @@ impl Shows {
         requires { worker < length self.old }
         ensures { self.new ≡ edit self.old worker (λ flags. replicate (length flags) false) }
     {
+        if self.empty[worker as usize] {
+            return;
+        }
         self.stripes.clear(worker);
+        self.empty[worker as usize] = true;
     }
 
     /// The worker's peer shows just these pieces.
@@ -128,6 +136,7 @@ impl Shows {
         ensures { self.new ≡ edit self.old worker (λ old. flags.now) }
     {
         self.stripes.write(worker, flags.as_wire());
+        self.empty[worker as usize] = false;
     }
 
     /// The first piece from this one on that the worker's peer shows.
@@ -136,7 +145,7 @@ impl Shows {
         requires { worker < length self.now }
         ensures { FindsFirst (λ p. slice_index_or (flags_at self.now worker) p false) piece result }
     {
-        if piece >= self.pieces {
+        if piece >= self.pieces || self.empty[worker as usize] {
             return None;
         }
         match first_bit(&self.stripes, worker, piece as usize) {
