@@ -1,8 +1,9 @@
 -- Which pieces hold endgame up, and that none does where each awaited block is asked.
 use Rattle.std.proofs.Common.{◌≡◌, ℕ, ◌+◌, ◌<◌, ◌≤◌, Bool, true, false, not, ◌&&◌, ◌||◌, List, Option, None, Some, length, refl, ap, sym, ◌∙◌, arith, subst}
-use Rattle.std.specs.Prelude.{is_some, nat_lt}
+use Rattle.std.specs.Prelude.{is_some, nat_lt, slice_get}
 use Rattle.std.proofs.lemmas.Bool.{and_from, and_parts, cases_Bool, cases_lt, false≢true, false_from_ne_true, lt-ltb, ltb-true, not-false, not-true}
 use Rattle.std.proofs.lemmas.Bool.{or_from, or_left, or_right}
+use Rattle.std.proofs.lemmas.Option.{get_or_from_slice_get, slice_get_within}
 use Rattle.std.proofs.Math.Bool.{and-true}
 use Rattle.std.proofs.Common.{⊎_elim}
 use Rattle.bt_meta.specs.Layout.{IsLayout, piece_count, block_count, block}
@@ -58,6 +59,17 @@ module _ (s : Setting) (h : History) where
       let opened = subst (λ (r : ℕ). is_open_piece s h r ≡ true) some.1.2
       (stage_opened s h (at pieces i) (open_within s h pieces lists i some.1.1) (listed_open s h pieces lists i some.1.1)) in
       (p, lp, open_holds p opened (ltb-true 0 (availability s h p) some.0))
+
+  -- the first of them
+  pub open_first : (pieces : List ℕ) (p : ℕ) → ListsOpen (groups_of s h) pieces → Some p ≡ slice_get pieces 0
+      → (p < piece_count s.torrent) × (0 < availability s h p → IsHeldUp s h)
+  open_first pieces p lists first =
+      let within = slice_get_within pieces 0 p (sym first) in
+      let here : at pieces 0 ≡ p = get_or_from_slice_get pieces 0 p 0 (sym first) in
+      (
+        subst (λ (r : ℕ). r < piece_count s.torrent) here (open_within s h pieces lists 0 within),
+        λ some. open_found pieces (Some p) lists (lt-ltb 0 (availability s h p) some, (0, within, here)) refl,
+      )
 
   -- or none of them is shown by anybody
   pub open_missing : (pieces : List ℕ) (found : Option ℕ) → ListsOpen (groups_of s h) pieces

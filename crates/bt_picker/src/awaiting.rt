@@ -34,6 +34,18 @@ impl<'a> Position<'a> {
         self.some_available(self.open_pieces()).is_some()
     }
 
+    /// Whether the least open piece holds endgame up: mostly it does, and then no other need be looked at.
+    #[inline(always)]
+    fn is_first_open_shown(&self) -> bool
+        ensures { result ≡ true → IsHeldUp self.now.setting self.now.history }
+    {
+        self.attest();
+        match self.open_pieces().first() {
+            Some(piece) => self.availability(*piece) > 0,
+            None => false,
+        }
+    }
+
     /// Whether an unbegun piece of this level holds endgame up: one that a joined peer shows.
     fn is_fresh_shown_at(&self, level: u8) -> bool
         requires { IsLevel level }
@@ -73,7 +85,7 @@ impl<'a> Position<'a> {
         if !self.waits_for_shown() {
             return false;
         }
-        self.are_shown_asked()
+        !self.is_first_open_shown() && self.are_shown_asked()
     }
 
     /// The same, where endgame waits only for pieces that a joined peer shows.
