@@ -65,8 +65,7 @@ module _ (s : Setting) (h : History) where
       → (p < piece_count s.torrent) × (0 < availability s h p → IsHeldUp s h)
   open_first pieces p lists first =
       let within = slice_get_within pieces 0 p (sym first) in
-      let here : at pieces 0 ≡ p = get_or_from_slice_get pieces 0 p 0 (sym first) in
-      (
+      let here : at pieces 0 ≡ p = get_or_from_slice_get pieces 0 p 0 (sym first) in (
         subst (λ (r : ℕ). r < piece_count s.torrent) here (open_within s h pieces lists 0 within),
         λ some. open_found pieces (Some p) lists (lt-ltb 0 (availability s h p) some, (0, within, here)) refl,
       )
