@@ -58,9 +58,11 @@ static void open_picker(void) {
 
 /* Each of these makes a call, or calls that undo each other, some number of times, and says how many calls that were. */
 static int come_and_go(void) {
-    well(piecepick_join(picker, PEERS, &answer));
-    well(piecepick_leave(picker, PEERS, &answer));
-    return 2;
+    for (int i = 0; i < 1000; i++) {
+        well(piecepick_join(picker, PEERS, &answer));
+        well(piecepick_leave(picker, PEERS, &answer));
+    }
+    return 1000;
 }
 static int bits(void) {
     well(piecepick_join(picker, PEERS, &answer));
@@ -151,9 +153,11 @@ static int full(void) {
     return -(int)((now() - begin) / 1000);
 }
 static int choke(void) {
-    well(piecepick_choke(picker, 2, &answer));
-    well(piecepick_unchoke(picker, 2, &answer));
-    return 2;
+    for (int i = 0; i < 1000; i++) {
+        well(piecepick_choke(picker, 2, &answer));
+        well(piecepick_unchoke(picker, 2, &answer));
+    }
+    return 1000;
 }
 static int depth(void) {
     for (uint32_t i = 0; i < 1000; i++) well(piecepick_depth(picker, 3, 5 + (i & 1), &answer));
@@ -199,14 +203,18 @@ static int want(void) {
     return 1;
 }
 static int in_order(void) {
-    well(piecepick_set_in_order(picker, 1, &answer));
-    well(piecepick_set_in_order(picker, 0, &answer));
-    return 2;
+    for (int i = 0; i < 1000; i++) {
+        well(piecepick_set_in_order(picker, 1, &answer));
+        well(piecepick_set_in_order(picker, 0, &answer));
+    }
+    return 2000;
 }
 static int in_order_from(void) {
-    well(piecepick_set_in_order_from(picker, 5, &answer));
-    well(piecepick_set_in_order_from(picker, 8, &answer));
-    return 2;
+    for (int i = 0; i < 1000; i++) {
+        well(piecepick_set_in_order_from(picker, 5, &answer));
+        well(piecepick_set_in_order_from(picker, 8, &answer));
+    }
+    return 2000;
 }
 static int epoch(void) {
     uint64_t number = 0;
