@@ -95,6 +95,15 @@ static int ask_and_release(void) {
     }
     return 1000;
 }
+/* The request was sent before the picker knew of it. */
+static int count_and_release(void) {
+    for (uint32_t piece = 0; piece < 1000; piece++) {
+        well(piecepick_requested(picker, 6, piece, 0, &answer));
+        if (answer.kind != PIECEPICK_K_IN_FLIGHT) exit(1);
+        well(piecepick_release(picker, 6, piece, 0, &answer));
+    }
+    return 1000;
+}
 /* A peer that shows nothing has nothing to be asked for. */
 static int nothing(void) {
     well(piecepick_join(picker, PEERS, &answer));
@@ -280,6 +289,7 @@ static const struct {
     {"join, leave of a peer that shows nothing", come_and_go}, {"bits, the first ones", bits}, {"haves that tell nothing new", haves}, {"have that tells nothing new", have},
     {"lack, and the have behind it", lack_and_have},
     {"next with a request, and its release", ask_and_release}, {"the same of a peer with 16 late requests", ask_with_late}, {"late", late},
+    {"requested, and its release", count_and_release},
     {"next, NOTHING_LEFT", nothing}, {"next, PIPE_FULL", full}, {"choke, unchoke with nothing asked", choke}, {"depth", depth},
     {"reach", reach}, {"set_level, from 4 to 5 or back", set_level}, {"set_levels that change nothing", set_levels}, {"want that changes nothing", want},
     {"set_in_order", in_order}, {"set_in_order_from", in_order_from}, {"epoch", epoch}, {"rule", rule}, {"has_piece", has_piece},

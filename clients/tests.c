@@ -74,7 +74,7 @@ static void told(const char *what)
     tried = 0;
 }
 
-/* A whole answer. Only NOTED tells of interest, only REFUSED has a reason, and the block is told by requests and cancels alone. */
+/* A whole answer. Only NOTED tells of interest, only REFUSED has a reason, and only requests, cancels and what is in flight have a block. */
 static void is_answer(int line, const char *what, const piecepick_answer *answer, piecepick_kind kind, piecepick_reason reason,
                       uint32_t interesting)
 {
@@ -632,8 +632,8 @@ static void try_texts(void)
         EQUAL(strcmp(text, "no status of this interface") == 0, !is_one);
         if (is_one) texts[count++] = text;
     }
-    for (int kind = 0; kind < 16; kind++) texts[count++] = piecepick_kind_text((piecepick_kind)kind);
-    EQUAL(count, 33 + 16);
+    for (int kind = 0; kind < 17; kind++) texts[count++] = piecepick_kind_text((piecepick_kind)kind);
+    EQUAL(count, 33 + 17);
     for (size_t at = 0; at < count; at++)
         for (size_t other = 0; other < at; other++) EQUAL(strcmp(texts[at], texts[other]) == 0, 0);
     for (int reason = 0; reason < 16; reason++)
@@ -665,6 +665,7 @@ BY_NUMBER(reach_of, piecepick_reach(picker, at, 4, answer))
 BY_NUMBER(alone_of, piecepick_alone(picker, at, 1, answer))
 BY_NUMBER(next_of, piecepick_next(picker, at, 1, answer))
 BY_NUMBER(outstanding_of, piecepick_outstanding_at(picker, at, 0, answer))
+BY_NUMBER(requested_of, piecepick_requested(picker, at, 0, 0, answer))
 BY_NUMBER(have_at, piecepick_have(picker, 0, at, answer))
 BY_NUMBER(lack_at, piecepick_lack(picker, 0, at, answer))
 BY_NUMBER(arrived_at, piecepick_arrived(picker, 0, at, 0, content, BLOCK, answer))
@@ -672,6 +673,7 @@ BY_NUMBER(release_at, piecepick_release(picker, 0, at, 0, answer))
 BY_NUMBER(late_at, piecepick_late(picker, 0, at, 0, answer))
 BY_NUMBER(level_at, piecepick_set_level(picker, at, 4, answer))
 BY_NUMBER(discard_at, piecepick_discard(picker, at, 0, answer))
+BY_NUMBER(requested_at, piecepick_requested(picker, 0, at, 0, answer))
 #define BY_FLAGS(name, call) \
     static piecepick_status name(piecepick_picker *picker, const uint8_t *flags, size_t len, piecepick_answer *answer) { return call; }
 BY_FLAGS(bits_by, piecepick_bits(picker, 0, flags, len, answer))
@@ -694,13 +696,13 @@ static piecepick_status settle_at(piecepick_picker *picker, uint32_t piece, piec
     return piecepick_settle(picker, piece, &digest, answer);
 }
 
-/* The first are refused where no peer has joined. `join` isn't, and of the last one asks only. */
+/* The first are refused where no peer has joined. `join` isn't, the one behind it asks only, and no journal has the last. */
 static by_number *const AT_WORKER[] = {
     piecepick_leave, piecepick_choke, piecepick_unchoke, bits_of, haves_of, have_of, lack_of, arrived_of, release_of, late_of, depth_of, reach_of,
-    alone_of, next_of, piecepick_join, outstanding_of,
+    alone_of, next_of, piecepick_join, outstanding_of, requested_of,
 };
-enum { NEED_A_PEER = 14, AT_WORKERS = 16 };
-static by_number *const AT_PIECE[] = {have_at, lack_at, arrived_at, release_at, late_at, level_at, discard_at, piecepick_lose};
+enum { NEED_A_PEER = 14, AT_WORKERS = 17 };
+static by_number *const AT_PIECE[] = {have_at, lack_at, arrived_at, release_at, late_at, level_at, discard_at, piecepick_lose, requested_at};
 static by_flags *const WITH_FLAGS[] = {bits_by, haves_by, piecepick_want};
 
 static void no_worker(piecepick_picker *picker, uint32_t keeps, uint32_t worker)
@@ -717,6 +719,7 @@ static void no_worker(piecepick_picker *picker, uint32_t keeps, uint32_t worker)
     NO_ANSWER(piecepick_have(picker, worker, pieces, &answer), PIECEPICK_E_WORKER);
     NO_ANSWER(piecepick_lack(picker, worker, pieces, &answer), PIECEPICK_E_WORKER);
     NO_ANSWER(piecepick_late(picker, worker, pieces, 0, &answer), PIECEPICK_E_WORKER);
+    NO_ANSWER(piecepick_requested(picker, worker, pieces, 0, &answer), PIECEPICK_E_WORKER);
     NO_ANSWER(piecepick_bits(picker, worker, all, 0, &answer), PIECEPICK_E_WORKER);
     NO_ANSWER(piecepick_reach(picker, worker, 8, &answer), PIECEPICK_E_WORKER);
 }
@@ -792,6 +795,9 @@ static void try_statuses(uint32_t keeps)
     REFUSED(piecepick_alone(picker, 1, 0, &answer), PIECEPICK_R_NOT_JOINED);
     NO_ANSWER(piecepick_lack(picker, 1, pieces, &answer), PIECEPICK_E_PIECE);
     NO_ANSWER(piecepick_late(picker, 1, pieces, 0, &answer), PIECEPICK_E_PIECE);
+    NO_ANSWER(piecepick_requested(picker, 1, pieces, 0, &answer), PIECEPICK_E_PIECE);
+    if (!is_journal) REFUSED(piecepick_requested(picker, 1, 0, 1, &answer), PIECEPICK_R_NOT_JOINED);
+    else NO_ANSWER(piecepick_requested(picker, 1, 0, 1, &answer), PIECEPICK_E_KEEPS);
     if (is_nothing) REFUSED(restore_of(picker, 1, &answer), PIECEPICK_R_NOT_JOINED);
     else NO_ANSWER(restore_of(picker, 1, &answer), PIECEPICK_E_KEEPS);
     if (is_nothing) REFUSED(resume_of(picker, 1, &answer), PIECEPICK_R_NOT_JOINED);
@@ -2140,6 +2146,131 @@ static void try_discards(uint32_t keeps)
     piecepick_close(&picker);
 }
 
+/* ---- A request that the picker didn't choose, and that is in flight. */
+
+/* It counts as one of the picker's own: for the depth, for other peers, and as the last of its peer's line. No journal has it. */
+static void try_requested(uint32_t keeps)
+{
+    piecepick_picker *picker = open_for(keeps, 2);
+    piecepick_answer answer;
+    uint32_t number;
+    come(picker, 0);
+    come(picker, 1);
+    asks_by(picker, 0, 0, 0, 0, PIECEPICK_RULE_RANDOM);
+    if (keeps == PIECEPICK_KEEPS_JOURNAL) {
+        const uint64_t before = picture(picker);
+        NO_ANSWER(piecepick_requested(picker, 0, 2, BLOCK, &answer), PIECEPICK_E_KEEPS);
+        NO_ANSWER(piecepick_requested(picker, 0, 0, 0, &answer), PIECEPICK_E_KEEPS); /* also where it would be refused */
+        EQUAL(picture(picker), before);
+        EQUAL(piecepick_audit(picker), PIECEPICK_OK);
+        piecepick_close(&picker);
+        return;
+    }
+    STAYS(BLOCKS(piecepick_requested(picker, 0, 2, BLOCK, &answer), PIECEPICK_K_IN_FLIGHT, 2, BLOCK));
+    NUMBER(piecepick_outstanding(picker, 0, &number), 2);
+    BLOCKS(piecepick_outstanding_at(picker, 0, 1, &answer), PIECEPICK_K_REQUEST, 2, BLOCK);
+    NUMBER(piecepick_askers(picker, 2, 1, &number), 1);
+    /* Its piece has begun, and nobody is asked for the block again. */
+    asks_by(picker, 1, 3, 0, BLOCK, PIECEPICK_RULE_BEGUN);
+    asks_by(picker, 1, 3, 2, 0, PIECEPICK_RULE_BEGUN);
+    asks_by(picker, 1, 3, 3, 0, PIECEPICK_RULE_RANDOM);
+    /* Another peer brings it, or its own does. */
+    RISES(EQUAL(bring(picker, 1, 2, BLOCK, 0), PIECEPICK_K_STORED));
+    BLOCKS(piecepick_next(picker, 0, 0, &answer), PIECEPICK_K_CANCEL, 2, BLOCK);
+    BLOCKS(piecepick_requested(picker, 0, pieces - 1, 0, &answer), PIECEPICK_K_IN_FLIGHT, pieces - 1, 0); /* a shorter one */
+    STAYS(EQUAL(bring(picker, 0, pieces - 1, 0, 0), PIECEPICK_K_FULL));
+    /* It may be late, released and reported again, and a choke ends it. */
+    BLOCKS(piecepick_requested(picker, 0, 5, 0, &answer), PIECEPICK_K_IN_FLIGHT, 5, 0);
+    RISES(QUIET(piecepick_late(picker, 0, 5, 0, &answer)));
+    BLOCKS(piecepick_requested(picker, 1, 5, 0, &answer), PIECEPICK_K_IN_FLIGHT, 5, 0);
+    NUMBER(piecepick_askers(picker, 5, 0, &number), 1);
+    for (uint32_t worker = 0; worker < 2; worker++) RISES(QUIET(piecepick_release(picker, worker, 5, 0, &answer)));
+    BLOCKS(piecepick_requested(picker, 0, 5, 0, &answer), PIECEPICK_K_IN_FLIGHT, 5, 0);
+    RISES(QUIET(piecepick_choke(picker, 0, &answer)));
+    NUMBER(piecepick_outstanding(picker, 0, &number), 0);
+    NUMBER(piecepick_askers(picker, 5, 0, &number), 0);
+    piecepick_close(&picker);
+}
+
+/* By the last block that nobody was asked for endgame begins, and another peer has something again. */
+static void try_requested_last(uint32_t keeps)
+{
+    piecepick_picker *picker = open_for(keeps, 2);
+    piecepick_answer answer;
+    if (keeps != PIECEPICK_KEEPS_JOURNAL) {
+        come_with(picker, 0, two);
+        come_with(picker, 1, two);
+        for (uint32_t begin = 0; begin < PIECE; begin += BLOCK)
+            STAYS(BLOCKS(piecepick_requested(picker, 0, 0, begin, &answer), PIECEPICK_K_IN_FLIGHT, 0, begin));
+        STAYS(BLOCKS(piecepick_requested(picker, 0, 1, 0, &answer), PIECEPICK_K_IN_FLIGHT, 1, 0));
+        RISES(BLOCKS(piecepick_requested(picker, 0, 1, BLOCK, &answer), PIECEPICK_K_IN_FLIGHT, 1, BLOCK));
+        asks_by(picker, 1, 0, 0, 0, PIECEPICK_RULE_ENDGAME);
+        REFUSED(piecepick_requested(picker, 1, 1, BLOCK, &answer), PIECEPICK_R_NOT_WAITING); /* in endgame too */
+        EQUAL(asks_all(picker, 1, PIECEPICK_K_IDLE), 3);
+    }
+    piecepick_close(&picker);
+}
+
+/* What can't be requested of the peer now isn't counted, and nothing changes. */
+#define NOT_NOW(worker, piece, begin)                                                                                       \
+    do {                                                                                                                    \
+        const uint64_t not_now_before = picture(picker);                                                                    \
+        REFUSED(piecepick_requested(picker, worker, piece, begin, &answer), PIECEPICK_R_NOT_WAITING);                       \
+        EQUAL(picture(picker), not_now_before);                                                                             \
+    } while (0)
+static void try_requested_refused(uint32_t keeps)
+{
+    piecepick_picker *picker = open_for(keeps, 2);
+    piecepick_answer answer;
+    if (keeps == PIECEPICK_KEEPS_JOURNAL) {
+        piecepick_close(&picker);
+        return;
+    }
+    REFUSED(piecepick_requested(picker, 0, 0, 0, &answer), PIECEPICK_R_NOT_JOINED);
+    GETS(piecepick_join(picker, 0, &answer), PIECEPICK_K_JOINED);
+    NOTED(piecepick_bits(picker, 0, two, flags_len, &answer), 1);
+    REFUSED(piecepick_requested(picker, 0, 0, 1, &answer), PIECEPICK_R_NO_SUCH_BLOCK);
+    REFUSED(piecepick_requested(picker, 0, 0, PIECE, &answer), PIECEPICK_R_NO_SUCH_BLOCK);
+    REFUSED(piecepick_requested(picker, 0, pieces - 1, MORE, &answer), PIECEPICK_R_NO_SUCH_BLOCK);
+    NOT_NOW(0, 0, 0); /* it chokes us */
+    QUIET(piecepick_unchoke(picker, 0, &answer));
+    NOT_NOW(0, 2, 0); /* it doesn't show the piece */
+    QUIET(piecepick_set_level(picker, 0, 0, &answer));
+    NOT_NOW(0, 0, 0); /* the piece isn't wanted */
+    QUIET(piecepick_set_level(picker, 0, 5, &answer));
+    QUIET(piecepick_reach(picker, 0, 4, &answer));
+    NOT_NOW(0, 0, 0); /* it is above the reach */
+    QUIET(piecepick_reach(picker, 0, 5, &answer));
+    QUIET(piecepick_depth(picker, 0, 1, &answer));
+    BLOCKS(piecepick_requested(picker, 0, 0, 0, &answer), PIECEPICK_K_IN_FLIGHT, 0, 0);
+    NOT_NOW(0, 0, BLOCK); /* as many as may be are in flight */
+    QUIET(piecepick_depth(picker, 0, 3, &answer));
+    NOT_NOW(0, 0, 0); /* it is in flight there */
+    come(picker, 1);
+    NOT_NOW(1, 0, 0); /* or elsewhere */
+    QUIET(piecepick_late(picker, 0, 0, 0, &answer));
+    NOT_NOW(0, 0, 0); /* its own peer is late with it */
+    BLOCKS(piecepick_requested(picker, 0, 0, BLOCK, &answer), PIECEPICK_K_IN_FLIGHT, 0, BLOCK);
+    EQUAL(bring(picker, 1, 0, 0, 0), PIECEPICK_K_STORED);
+    NOT_NOW(1, 0, 0); /* it is held */
+    NOT_NOW(0, 1, 0); /* a cancel is due */
+    BLOCKS(piecepick_next(picker, 0, 0, &answer), PIECEPICK_K_CANCEL, 0, 0);
+    BLOCKS(piecepick_requested(picker, 0, 1, 0, &answer), PIECEPICK_K_IN_FLIGHT, 1, 0);
+    EQUAL(bring(picker, 0, 0, BLOCK, 0), PIECEPICK_K_FULL);
+    EQUAL(settle(picker, keeps, 0, 0), PIECEPICK_K_COMPLETE);
+    NOT_NOW(1, 0, 0); /* its piece is complete */
+    piecepick_close(&picker);
+    /* A piece of a peer that works alone isn't for others, and that one has no part in theirs. */
+    picker = open_with_alone(keeps);
+    NOT_NOW(0, 0, BLOCK);
+    BLOCKS(piecepick_requested(picker, 0, 1, 0, &answer), PIECEPICK_K_IN_FLIGHT, 1, 0);
+    NOT_NOW(1, 1, BLOCK);
+    BLOCKS(piecepick_requested(picker, 1, 0, BLOCK, &answer), PIECEPICK_K_IN_FLIGHT, 0, BLOCK);
+    QUIET(piecepick_alone(picker, 1, 0, &answer));
+    BLOCKS(piecepick_requested(picker, 1, 1, BLOCK, &answer), PIECEPICK_K_IN_FLIGHT, 1, BLOCK);
+    piecepick_close(&picker);
+}
+
 static void try_epochs(uint32_t keeps)
 {
     piecepick_options options = PIECEPICK_OPTIONS;
@@ -2393,7 +2524,8 @@ static void follow_alone(uint32_t worker, uint32_t action, int yes, const piecep
 }
 
 /* Calls at random. A peer that had nothing to be asked for has nothing while its own worker tells nothing, and the epoch stays. Each request
-   tells its rule, and is of a block that wasn't in flight there. None is first for a block of a piece that is another one's own. */
+   tells its rule, and is of a block that wasn't in flight there. None is first for a block of a piece that is another one's own. Some were in
+   flight before the picker knew of them. */
 static void try_epochs_at_random(uint32_t keeps)
 {
     enum { STEPS = 20000 };
@@ -2403,7 +2535,7 @@ static void try_epochs_at_random(uint32_t keeps)
     uint64_t state = 1, idle_at[PEERS] = {0};
     uint32_t complete = 1, number;
     int is_idle[PEERS] = {0}, is_wrong[MOST_PIECES] = {0};
-    long again = 0, by[PIECEPICK_RULE_LATE + 1] = {0}, apart = 0;
+    long again = 0, by[PIECEPICK_RULE_LATE + 1] = {0}, apart = 0, counted = 0;
     options.keeps = keeps;
     options.workers = PEERS;
     options.depth = 5;
@@ -2450,6 +2582,14 @@ static void try_epochs_at_random(uint32_t keeps)
         else if (action < 24) {
             status = piecepick_late(picker, worker, piece, begin, &answer);
             if (answer.kind == PIECEPICK_K_QUIET) is_late[worker][piece][begin / BLOCK] = 1;
+        } else if (action < 32 && keeps != PIECEPICK_KEEPS_JOURNAL) {
+            status = piecepick_requested(picker, worker, piece, begin, &answer);
+            if (answer.kind == PIECEPICK_K_IN_FLIGHT) {
+                EQUAL(times_at(picker, worker, 0, piece, begin), 1);
+                EQUAL(askers_of(picker, 0, piece, begin), 1);
+                EQUAL(may_be_first(picker, worker, piece, begin), 1);
+                counted++;
+            }
         } else if (action < 50) {
             status = piecepick_next(picker, worker, state, &answer);
             is_idle[worker] = answer.kind == PIECEPICK_K_IDLE || answer.kind == PIECEPICK_K_NOTHING_LEFT;
@@ -2492,6 +2632,7 @@ static void try_epochs_at_random(uint32_t keeps)
     }
     EQUAL(again > 1000, 1);
     EQUAL(apart > 100, 1);
+    EQUAL(counted > 10, keeps != PIECEPICK_KEEPS_JOURNAL);
     for (size_t rule = PIECEPICK_RULE_IN_ORDER; rule <= PIECEPICK_RULE_LATE; rule++) EQUAL(by[rule] > 0, 1);
     if (keeps == PIECEPICK_KEEPS_JOURNAL) EQUAL(piecepick_audit(picker), PIECEPICK_OK);
     piecepick_close(&picker);
@@ -3193,6 +3334,11 @@ static void run(uint32_t keeps)
         EQUAL(number, 1);
         EQUAL(piecepick_outstanding_at(picker, worker, 0, &answer), PIECEPICK_OK);
         EQUAL(memcmp(&answer, &request, sizeof answer), 0);
+        if (!is_journal) {
+            EQUAL(piecepick_release(picker, worker, request.piece, request.begin, &answer), PIECEPICK_OK);
+            EQUAL(piecepick_requested(picker, worker, request.piece, request.begin, &answer), PIECEPICK_OK);
+            EQUAL(answer.kind, PIECEPICK_K_IN_FLIGHT);
+        }
         AGAIN_IF(is_journal, piecepick_late(picker, worker, request.piece, request.begin, &answer));
         const uint8_t *block = bytes_of(request.piece) + request.begin;
         AGAIN_IF(!is_nothing, piecepick_arrived(picker, worker, request.piece, request.begin, block, request.length, &answer));
@@ -3410,6 +3556,9 @@ int main(int argc, char **argv)
         {"a liar that works alone", try_liar},
         {"pieces that are lost", try_losses},
         {"blocks that are discarded", try_discards},
+        {"requests that were in flight already", try_requested},
+        {"an endgame by one of them", try_requested_last},
+        {"such as can't be requested now", try_requested_refused},
         {"epochs", try_epochs},
         {"epochs, in calls at random", try_epochs_at_random},
         {"senders", try_senders},

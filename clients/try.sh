@@ -226,6 +226,17 @@ int main()
     well = well && losing.discard(0, 16384).kind == PIECEPICK_K_FAILED && !losing.is_waiting(0) && losing.lose(0).kind == PIECEPICK_K_FAILED;
     well = well && losing.arrived(0, 0, 0, zeros).kind == PIECEPICK_K_STORED && losing.discard(0, 1).reason == PIECEPICK_R_NO_SUCH_BLOCK;
     well = well && throws(PIECEPICK_E_PIECE, [&] { losing.lose(2); }) && throws(PIECEPICK_E_PIECE, [&] { losing.discard(2, 0); });
+    /* A request that was in flight already counts, and none of the same block at another peer. */
+    Picker counting(2 * 16384, 4 * 16384, {digests, 40}, Options());
+    for (std::uint32_t worker = 0; worker < 2; worker++) {
+        counting.join(worker);
+        counting.bits(worker, two);
+        counting.unchoke(worker);
+    }
+    well = well && counting.requested(0, 1, 16384).kind == PIECEPICK_K_IN_FLIGHT && counting.outstanding_at(0, 0).begin == 16384;
+    well = well && counting.requested(1, 1, 16384).reason == PIECEPICK_R_NOT_WAITING && counting.outstanding(1) == 0;
+    well = well && counting.arrived(1, 1, 16384, zeros).kind == PIECEPICK_K_STORED && counting.next(0, 0).kind == PIECEPICK_K_CANCEL;
+    well = well && throws(PIECEPICK_E_WORKER, [&] { counting.requested(50, 2, 0); }) && throws(PIECEPICK_E_PIECE, [&] { counting.requested(0, 2, 0); });
     first = open();
     return well && !first.is_complete() && throws(PIECEPICK_E_INCOMPLETE, [&] { first.read(0, room); }) ? 0 : 1;
 }

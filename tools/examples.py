@@ -61,6 +61,7 @@ PAIR_ASKED = enters(0, "f0") + enters(1, "c0") + [
 # of the examples that don't go by the usual ones: depth, random, and where they matter askers and deepest, open, and rush and shown
 RULES: dict[str, tuple[int, ...]] = {
     "depth_two": (2, 1),
+    "block_in_flight_takes_room": (1, 1),
     "deep_pipe": (64, 1),
     "rarest_from_the_start": (5, 0),
     "second_piece_at_random": (5, 2),
@@ -412,6 +413,20 @@ EXAMPLES: dict[str, tuple[str, int, list[str]]] = {  # name: torrent, workers, l
     "refusals_of_losses": ("short_last", 1, [
         "0 lose 3 = refused NoSuchPiece", "0 discard 3 0 = refused NoSuchPiece", "0 discard 0 1 = refused NoSuchBlock", "0 lose 0 = failed",
         "0 discard 0 0 = failed", "0 join = joined", "0 bits e0 = noted yes"]),
+    "block_in_flight_counts": ("two_blocks", 2, enters(0, "c0") + enters(1, "c0") + [
+        "0 requested 0 16384 = inflight 0 16384 16384", "1 next 0 = request 0 0 16384", "1 next 0 = request 1 0 16384",
+        "1 block 0 16384 X = stored", "0 next 0 = cancel 0 16384 16384", "0 requested 1 16384 = inflight 1 16384 16384"]),
+    "block_in_flight_takes_room": ("two_blocks", 1, enters(0, "c0") + [
+        "0 requested 1 16384 = inflight 1 16384 16384", "0 next 0 = pipefull", "0 requested 1 0 = refused NotWaiting",
+        "0 release 1 16384 = quiet", "0 next 1 = request 1 0 16384"]),
+    "refusals_of_requested": ("two_blocks", 2, [
+        "0 requested 0 0 = refused NotJoined", "0 join = joined", "0 requested 2 0 = refused NoSuchPiece",
+        "0 requested 0 1 = refused NoSuchBlock", "0 unchoke = quiet", "0 requested 0 0 = refused NotWaiting", "0 have 0 = noted yes",
+        "0 choke = quiet", "0 requested 0 0 = refused NotWaiting", "0 unchoke = quiet", "0 level 0 0 = quiet",
+        "0 requested 0 0 = refused NotWaiting", "0 level 0 7 = quiet", "0 reach 6 = quiet", "0 requested 0 0 = refused NotWaiting",
+        "0 reach 7 = quiet", "0 requested 0 0 = inflight 0 0 16384", "0 requested 0 0 = refused NotWaiting"] + enters(1, "c0") + [
+        "1 requested 0 0 = refused NotWaiting", "1 block 0 0 X = stored", "0 requested 0 16384 = refused NotWaiting",
+        "0 next 0 = cancel 0 0 16384", "0 requested 0 0 = refused NotWaiting", "0 requested 0 16384 = inflight 0 16384 16384"]),
 }
 
 WRONG: dict[str, tuple[str, int, str]] = {  # name: example, how many entries of it came before, the wrong entry
@@ -626,6 +641,21 @@ WRONG: dict[str, tuple[str, int, str]] = {  # name: example, how many entries of
     "no_such_block_is_discarded": ("refusals_of_losses", 2, "0 discard 0 1 = failed"),
     "loss_needs_a_peer": ("refusals_of_losses", 3, "0 lose 0 = refused NotJoined"),
     "bitfield_late_by_a_loss": ("refusals_of_losses", 6, "0 bits e0 = refused LateBits"),
+    "block_in_flight_is_requested_again": ("block_in_flight_counts", 7, "1 next 0 = request 0 16384 16384"),
+    "piece_of_a_block_in_flight_has_not_begun": ("block_in_flight_counts", 7, "1 next 1 = request 1 0 16384"),
+    "no_cancel_for_a_block_in_flight": ("block_in_flight_counts", 10, "0 next 0 = request 1 16384 16384"),
+    "another_block_in_flight": ("block_in_flight_counts", 6, "0 requested 0 16384 = inflight 0 0 16384"),
+    "block_in_flight_beyond_the_depth": ("block_in_flight_takes_room", 5, "0 requested 1 0 = inflight 1 0 16384"),
+    "strangers_block_in_flight": ("refusals_of_requested", 0, "0 requested 0 0 = inflight 0 0 16384"),
+    "no_such_block_in_flight": ("refusals_of_requested", 3, "0 requested 0 1 = inflight 0 0 16384"),
+    "block_in_flight_that_is_not_shown": ("refusals_of_requested", 5, "0 requested 0 0 = inflight 0 0 16384"),
+    "block_in_flight_while_choked": ("refusals_of_requested", 8, "0 requested 0 0 = inflight 0 0 16384"),
+    "unwanted_block_in_flight": ("refusals_of_requested", 11, "0 requested 0 0 = inflight 0 0 16384"),
+    "block_in_flight_beyond_the_reach": ("refusals_of_requested", 14, "0 requested 0 0 = inflight 0 0 16384"),
+    "block_in_flight_twice": ("refusals_of_requested", 17, "0 requested 0 0 = inflight 0 0 16384"),
+    "block_in_flight_at_two_peers": ("refusals_of_requested", 21, "1 requested 0 0 = inflight 0 0 16384"),
+    "block_in_flight_while_a_cancel_is_due": ("refusals_of_requested", 23, "0 requested 0 16384 = inflight 0 16384 16384"),
+    "held_block_in_flight": ("refusals_of_requested", 25, "0 requested 0 0 = inflight 0 0 16384"),
 }
 
 WRONG_IN_AUDITS: dict[str, tuple[int, str]] = {  # example: how many entries of it came before, the wrong entry; for the examples that have none above
@@ -678,6 +708,8 @@ def flags(text: str, count: int) -> str:
 PLAIN = {"joined": "Joined", "quiet": "Quiet", "idle": "Idle", "nothing": "NothingLeft", "completed": "Completed", "stored": "Stored",
          "had": "Had", "failed": "Failed", "dropped": "Dropped", "choked": "Choked", "pipefull": "PipeFull"}
 
+BLOCKS = {"request": "Request", "cancel": "Cancel", "inflight": "InFlight"}
+
 
 def action(words: list[str], pieces: int) -> str:
     match words:
@@ -694,6 +726,7 @@ def action(words: list[str], pieces: int) -> str:
         case ["late", piece, begin]: return f"(Late {piece} {begin})"
         case ["lose", piece]: return f"(Lose {piece})"
         case ["discard", piece, begin]: return f"(Discard {piece} {begin})"
+        case ["requested", piece, begin]: return f"(Requested {piece} {begin})"
         case ["level", piece, level]: return f"(Level {piece} {level})"
         case ["levels", digits]: return f"(Levels ({items(digits)}))"
         case ["inorderfrom", level]: return f"(InOrderFrom {level})"
@@ -711,7 +744,7 @@ def reply(words: list[str]) -> str:
     match words:
         case ["noted", answer]: return f"(Noted {'true' if answer == 'yes' else 'false'})"
         case ["refused", reason]: return f"(Refused {reason})"
-        case ["request" | "cancel" as kind, piece, begin, length]: return f"({kind.capitalize()} (block_of {piece} {begin} {length}))"
+        case ["request" | "cancel" | "inflight" as kind, piece, begin, length]: return f"({BLOCKS[kind]} (block_of {piece} {begin} {length}))"
         case [word]: return PLAIN[word]
     raise ValueError(f"no reply: {words}")
 

@@ -1,7 +1,8 @@
 """Random scripts at the library (clients/build.sh), each reply of which is judged by the plain model. `tools/fuzz.py picks --library` plays them.
 
 Their rules also bound the askers of a block in endgame, and let greater depths be told: no script of the program says these. Every second
-picker keeps no journal, and loses pieces and discards blocks. Of each request the rule that the library tells is judged too.
+picker keeps no journal. It loses pieces, discards blocks, and hears of requests that it didn't choose. Of each request the rule that the library
+tells is judged too.
 """
 
 from __future__ import annotations
@@ -20,10 +21,10 @@ from picks import Played, Script, Wrong  # noqa: E402
 from piecepick import Answer, Keeps, Kind, Picker, PiecepickError, Status  # noqa: E402
 
 # Replies to which a script gives other words than the library.
-OTHER_WORDS = {Kind.PIPE_FULL: "pipefull", Kind.NOTHING_LEFT: "nothing", Kind.FULL: "completed", Kind.COMPLETE: "had"}
+OTHER_WORDS = {Kind.PIPE_FULL: "pipefull", Kind.NOTHING_LEFT: "nothing", Kind.FULL: "completed", Kind.COMPLETE: "had", Kind.IN_FLIGHT: "inflight"}
 # Causes that the library tells by a status, and the program as a refusal.
 STATUSES = {Status.PIECE: NO_SUCH_PIECE, Status.NOT_WAITING: NOT_WAITING}
-WITH_PIECE = ("have", "lack", "block", "settle", "release", "late", "level", "lose", "discard")
+WITH_PIECE = ("have", "lack", "block", "settle", "release", "late", "level", "lose", "discard", "requested")
 
 
 def words_of(answer: Answer) -> str:
@@ -32,9 +33,8 @@ def words_of(answer: Answer) -> str:
         return "noted yes" if answer.interesting else "noted no"
     if answer.kind is Kind.REFUSED:
         return f"refused {int(answer.reason)}"
-    if answer.kind in (Kind.REQUEST, Kind.CANCEL):
-        return " ".join([answer.kind.name.lower(), *map(str, answer.block)])
-    return OTHER_WORDS.get(answer.kind, answer.kind.name.lower())
+    word = OTHER_WORDS.get(answer.kind, answer.kind.name.lower())
+    return " ".join([word, *map(str, answer.block)]) if answer.kind in (Kind.REQUEST, Kind.CANCEL, Kind.IN_FLIGHT) else word
 
 
 def settled(picker: Picker, model: Model, keeps: Keeps, piece: int) -> Answer:

@@ -174,17 +174,25 @@ class Model:
 
     # ---- what is requested next
 
-    def usable(self, peer: Peer, expected: set[Block]) -> list[Block]:
-        """The wanted blocks that the peer has, within its reach, which are neither held nor expected of anybody; of those just the highest
-        level. A late block is none for the peers at which it is in flight. Neither is one of a piece that the peer may take no part in."""
+    def is_pipe_full(self, peer: Peer) -> bool:
+        """Whether as many blocks as may be are in flight at the peer."""
+        return len(peer.asked) >= (self.rules.depth if peer.depth is None else peer.depth)
+
+    def fitting(self, peer: Peer, expected: set[Block]) -> list[Block]:
+        """The wanted blocks that the peer has, within its reach, which are neither held nor expected of anybody. A late block is none for the
+        peers at which it is in flight. Neither is one of a piece that the peer may take no part in."""
         begun = self.begun(expected)
-        found = [
+        return [
             block
             for piece in peer.shows
             if 0 < self.levels[piece] <= peer.reach and self.takes_part(peer, piece, begun)
             for block in self.blocks[piece]
             if block not in self.held and block not in expected and block not in peer.asked
         ]
+
+    def usable(self, peer: Peer, expected: set[Block]) -> list[Block]:
+        """Of these blocks just the highest level."""
+        found = self.fitting(peer, expected)
         highest = max((self.levels[block.piece] for block in found), default=0)
         return [block for block in found if self.levels[block.piece] == highest]
 
@@ -240,7 +248,7 @@ class Model:
             return "cancel", list(peer.due)
         if not peer.opened:
             return "choked", []
-        if len(peer.asked) >= (self.rules.depth if peer.depth is None else peer.depth):
+        if self.is_pipe_full(peer):
             return "pipefull", []
         expected = self.expected()
         blocks = self.chosen(self.usable(peer, expected), expected) or self.doubles(peer, expected)
@@ -432,6 +440,17 @@ class Model:
         peer.overdue.add(self.asked_at(peer, piece, begin))
         return "quiet"
 
+    def call_requested(self, peer: Peer, piece: int, begin: int) -> str:
+        self.need(peer.joined, NOT_JOINED)
+        self.need(piece < self.pieces, NO_SUCH_PIECE)
+        block = next((block for block in self.blocks[piece] if block.begin == begin), None)
+        if block is None:
+            raise Refused(NO_SUCH_BLOCK)
+        may_be_asked = peer.opened and not peer.due and not self.is_pipe_full(peer)
+        self.need(may_be_asked and block in self.fitting(peer, self.expected()), NOT_WAITING)
+        peer.asked.append(block)
+        return f"inflight {block}"
+
     def call_level(self, _peer: Peer, piece: int, level: int) -> str:
         self.need(piece < self.pieces, NO_SUCH_PIECE)
         self.need(level <= MOST_LEVEL, WRONG_LEVEL)
@@ -510,8 +529,8 @@ FORMS: dict[str, list[str]] = {
     "level": ["32", "8"], "levels": ["digits"], "inorder": ["yes"], "inorderfrom": ["8"], "reach": ["8"], "alone": ["yes"],
 }
 
-# and behind those that no script has: a desk loses nothing
-LOSSES: dict[str, list[str]] = {"lose": ["32"], "discard": ["32", "32"]}
+# and behind those that no script has: a desk loses nothing, and chooses each request itself
+LOSSES: dict[str, list[str]] = {"lose": ["32"], "discard": ["32", "32"], "requested": ["32", "32"]}
 
 
 def is_digits(text: str) -> bool:

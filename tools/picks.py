@@ -43,6 +43,7 @@ class Mood(NamedTuple):
     alone: int
     stray: int
     loss: int = 0
+    flight: int = 0
 
 
 MOODS = [
@@ -59,10 +60,12 @@ MOODS = [
     Mood(45, 25, 12, 2, 0, 0, 2, 1, 4, 3, 1, 0, 0, 0, 0, 0, 0),
 ]
 
-# Of pickers that may lose pieces: of these the first has whole pieces to lose, and the second has blocks to discard.
+# Of pickers that may lose pieces: of these the first has whole pieces to lose, the second has blocks to discard, and in the third many requests
+# are in flight that the picker didn't choose.
 LOSSES = [
-    Mood(45, 25, 12, 2, 1, 1, 3, 1, 5, 4, 1, 2, 1, 1, 2, 3, 1, 14),
-    Mood(45, 16, 2, 3, 2, 2, 4, 1, 5, 6, 2, 2, 1, 1, 2, 8, 1, 14),
+    Mood(45, 25, 12, 2, 1, 1, 3, 1, 5, 4, 1, 2, 1, 1, 2, 3, 1, 14, 3),
+    Mood(45, 16, 2, 3, 2, 2, 4, 1, 5, 6, 2, 2, 1, 1, 2, 8, 1, 14, 8),
+    Mood(30, 12, 3, 3, 2, 2, 5, 2, 5, 8, 4, 3, 1, 2, 3, 8, 1, 2, 35),
 ]
 
 
@@ -275,6 +278,19 @@ class Script:
             words = [f"lose {self.piece()}", f"discard {self.piece()} {block.begin}", f"discard {block.piece} {block.begin + 1}"]
             self.say(worker, self.rng.choice(words))
         # What was complete or held may be asked of anybody again.
+        self.ask_two(worker)
+
+    def say_flight(self, worker: int) -> None:
+        ready = [number for number, peer in enumerate(self.model.peers) if peer.opened]
+        if ready and self.rng.randrange(8):
+            worker = self.rng.choice(ready)
+        for _ in range(self.rng.choice([1, 1, 2, 3])):
+            fitting = sorted(self.model.fitting(self.model.peers[worker], self.model.expected()))
+            block = self.rng.choice(fitting) if fitting and self.rng.randrange(4) else self.some_block()
+            piece = block.piece if self.rng.randrange(20) else self.piece()
+            begin = block.begin if self.rng.randrange(20) else self.rng.choice([block.begin + 1, BLOCK_SIZE, 2**32 - 1])
+            self.say(worker, f"requested {piece} {begin}")
+        # Nobody else gets what counts now, and the line may be full.
         self.ask_two(worker)
 
     def say_stray(self, worker: int) -> None:

@@ -22,7 +22,7 @@ from .picker import Answer, File, InputFault, Job, MemoryFault, Picker, Piecepic
 from .picker import hash as hash  # noqa: F401
 from .picker import hash_four, version
 
-__version__ = "1.1.0"
+__version__ = "1.2.0"
 
 __all__ = [
     "Answer",

@@ -9,7 +9,7 @@ from typing import Any
 from . import _texts
 
 ABI = 1
-VERSION_NUMBER = 10100
+VERSION_NUMBER = 10200
 
 
 class Status(IntEnum):
@@ -74,6 +74,7 @@ class Kind(IntEnum):
     COMPLETE = 13
     FAILED = 14
     REFUSED = 15
+    IN_FLIGHT = 16
 
 
 class Reason(IntEnum):
@@ -173,6 +174,7 @@ SIGNATURES: dict[str, tuple[Any, list[Any]]] = {
     "piecepick_received": (c_uint32, [_PICKER, c_uint32, c_uint32, c_uint32, c_size_t, _ANSWER]),
     "piecepick_release": (c_uint32, [_PICKER, c_uint32, c_uint32, c_uint32, _ANSWER]),
     "piecepick_late": (c_uint32, [_PICKER, c_uint32, c_uint32, c_uint32, _ANSWER]),
+    "piecepick_requested": (c_uint32, [_PICKER, c_uint32, c_uint32, c_uint32, _ANSWER]),
     "piecepick_depth": (c_uint32, [_PICKER, c_uint32, c_uint32, _ANSWER]),
     "piecepick_reach": (c_uint32, [_PICKER, c_uint32, c_uint32, _ANSWER]),
     "piecepick_alone": (c_uint32, [_PICKER, c_uint32, c_uint32, _ANSWER]),

@@ -45,7 +45,7 @@ REASON = {
     "NO_SUCH_PIECE": "no such piece",
     "NO_SUCH_BLOCK": "no block begins there",
     "WRONG_LENGTH": "wrong block length",
-    "NOT_WAITING": "the piece isn't waiting for a check: a block is lacking, or it is complete",
+    "NOT_WAITING": "the piece is complete, or the block can't be requested from this peer now",
     "STALE": "the bytes that were hashed aren't those that the picker holds now",
     "NOT_REQUESTED": "the block isn't requested from this peer",
     "WRONG_DEPTH": "the depth must be 1 to the option deepest",

@@ -81,7 +81,7 @@ class File(NamedTuple):
 
 
 class Answer(NamedTuple):
-    """What the picker answers. A block stands in CANCEL and REQUEST, in bytes; `reason` in REFUSED; `interesting` in NOTED."""
+    """What the picker answers. A block stands in CANCEL, REQUEST and IN_FLIGHT, in bytes; `reason` in REFUSED; `interesting` in NOTED."""
 
     kind: Kind
     piece: int = 0
@@ -92,7 +92,7 @@ class Answer(NamedTuple):
 
     @property
     def block(self) -> Block:
-        """The block of a CANCEL or a REQUEST: piece, begin and length."""
+        """The block of a CANCEL, a REQUEST or an IN_FLIGHT: piece, begin and length."""
         return self.piece, self.begin, self.length
 
 
@@ -100,7 +100,8 @@ class Answer(NamedTuple):
 _KINDS = tuple(Kind)
 
 # All answers but those with a block are made once. Those that carry something have None in the first table.
-_PLAIN = tuple(None if kind in (Kind.CANCEL, Kind.REQUEST, Kind.NOTED, Kind.REFUSED) else Answer(kind) for kind in _KINDS)
+_CARRYING = (Kind.CANCEL, Kind.REQUEST, Kind.IN_FLIGHT, Kind.NOTED, Kind.REFUSED)
+_PLAIN = tuple(None if kind in _CARRYING else Answer(kind) for kind in _KINDS)
 _NOTED = Answer(Kind.NOTED), Answer(Kind.NOTED, interesting=True)
 _REFUSED = tuple(Answer(Kind.REFUSED, reason=reason) for reason in Reason)
 
@@ -397,6 +398,14 @@ class Picker:
         another one brings it, a cancel is due at this peer. While the request lasts, the block isn't requested again from this peer.
         """
         return self._told(LIBRARY.piecepick_late, _u32(worker), _u32(piece), _u32(begin))
+
+    def requested(self, worker: int, piece: int, begin: int) -> Answer:
+        """The block that begins there, in bytes, was requested from the peer already, and not by the picker: IN_FLIGHT with the block.
+
+        From now on the request counts as one of the picker's own. REFUSED by NOT_WAITING where the block can't be requested from this peer now:
+        nothing has changed then, and the block is stored when it comes. `Status.KEEPS` where a journal is kept.
+        """
+        return self._told(LIBRARY.piecepick_requested, _u32(worker), _u32(piece), _u32(begin))
 
     def depth(self, worker: int, depth: int) -> Answer:
         """From now on so many blocks may be requested from the peer at a time; REFUSED by WRONG_DEPTH beyond `deepest`."""

@@ -95,7 +95,7 @@ class Opening(CallCase):
                 self.assert_status(status, lambda choice: Picker(METAINFO, **choice), {name: number})
 
     def test_version(self) -> None:
-        self.assertEqual(version(), "1.1.0")
+        self.assertEqual(version(), "1.2.0")
 
 
 class Peers(CallCase):
@@ -338,6 +338,95 @@ class Late(CallCase):
         before = made.epoch
         made.late(0, 0, BLOCK)
         self.assertGreater(made.epoch, before)
+
+
+class InFlight(CallCase):
+    """A request that the picker didn't choose, and that is in flight. Two peers have each piece."""
+
+    def setUp(self) -> None:
+        self.made = with_peer()
+        self.addCleanup(self.made.close)
+        self.made.join(1)
+        self.made.bits(1, ALL)
+        self.made.unchoke(1)
+
+    def assert_counts(self, worker: int, piece: int, begin: int) -> None:
+        """It counts from now on."""
+        self.assertEqual(self.made.requested(worker, piece, begin), Answer(Kind.IN_FLIGHT, piece, begin, BLOCK))
+
+    def assert_not_now(self, worker: int, piece: int, begin: int) -> None:
+        """It is refused, and nothing changes."""
+        before = self.made.epoch, self.made.outstanding(worker)
+        self.assertEqual(self.made.requested(worker, piece, begin), refused(Reason.NOT_WAITING))
+        self.assertEqual((self.made.epoch, self.made.outstanding(worker)), before)
+
+    def test_it_counts(self) -> None:
+        """It is the last of the line, nobody else is asked for it, and a cancel is due where another peer brings it."""
+        made = self.made
+        before = made.epoch
+        self.assertEqual(made.next(0, 0).block, (0, 0, BLOCK))
+        self.assert_counts(0, 3, BLOCK)
+        self.assertEqual([made.outstanding_at(0, place).block for place in range(made.outstanding(0))], [(0, 0, BLOCK), (3, BLOCK, BLOCK)])
+        self.assertEqual((made.askers(3, 1), made.epoch), (1, before))
+        self.assertEqual([made.next(1, 0).block for _ in range(3)], [(0, BLOCK, BLOCK), (3, 0, BLOCK), (1, 0, BLOCK)])
+        self.assertIs(made.arrived(1, 3, BLOCK, PARTS[3][BLOCK:]).kind, Kind.STORED)
+        self.assertEqual(made.next(0), Answer(Kind.CANCEL, 3, BLOCK, BLOCK))
+
+    def test_endgame_begins(self) -> None:
+        self.made.want(b"\x80")
+        before = self.made.epoch
+        self.assert_counts(0, 0, BLOCK)
+        self.assertEqual(self.made.epoch, before)
+        self.assert_counts(0, 0, 0)
+        self.assertGreater(self.made.epoch, before)
+        self.assertEqual(self.made.next(1).block, (0, 0, BLOCK))
+        self.assertIs(self.made.rule(0, 0), PickRule.ENDGAME)
+
+    def test_what_is_refused(self) -> None:
+        made = self.made
+        self.assertEqual(made.requested(2, 0, 0), refused(Reason.NOT_JOINED))
+        for begin in (1, PIECE, 2**32 - 1):
+            self.assertEqual(made.requested(0, 0, begin), refused(Reason.NO_SUCH_BLOCK))
+        self.assert_status(Status.WORKER, made.requested, 3, PIECES, 0)
+        self.assert_status(Status.PIECE, made.requested, 2, PIECES, 0)
+        with with_peer(Keeps.JOURNAL) as journal:
+            self.assert_status(Status.KEEPS, journal.requested, 0, 0, 0)
+
+    def test_what_is_in_flight_or_held(self) -> None:
+        made = self.made
+        made.depth(0, 1)
+        self.assert_counts(0, 0, 0)
+        self.assert_not_now(0, 0, BLOCK)  # as many as may be are in flight
+        made.depth(0, 4)
+        for worker in range(2):
+            self.assert_not_now(worker, 0, 0)
+        made.late(0, 0, 0)
+        self.assert_not_now(0, 0, 0)
+        self.assert_counts(1, 0, 0)
+        made.arrived(1, 0, 0, PARTS[0][:BLOCK])
+        self.assert_not_now(1, 0, 0)
+        self.assert_not_now(0, 1, 0)  # a cancel is due
+        self.assertIs(made.next(0).kind, Kind.CANCEL)
+        self.assert_counts(0, 1, 0)
+
+    def test_what_the_peer_gets_nothing_of(self) -> None:
+        made = self.made
+        made.set_level(1, 5)
+        made.reach(0, 4)
+        self.assert_not_now(0, 1, 0)
+        made.set_level(1, 0)
+        self.assert_not_now(0, 1, 0)
+        made.set_level(1, 4)
+        made.lack(0, 1)
+        self.assert_not_now(0, 1, 0)
+        made.have(0, 1)
+        made.alone(1)
+        self.assert_counts(1, 5, 0)
+        self.assert_not_now(0, 5, BLOCK)
+        self.assert_counts(0, 1, 0)
+        self.assert_not_now(1, 1, BLOCK)
+        made.choke(0)
+        self.assert_not_now(0, 1, 0)
 
 
 class Alone(CallCase):

@@ -64,7 +64,7 @@ class Numbers(unittest.TestCase):
             calls: list[tuple[Callable[..., object], int]] = [
                 (made.join, 1), (made.next, 1), (made.have, 2), (made.depth, 2), (made.level, 1), (made.release, 3), (made.late, 3),
                 (made.reach, 2), (made.alone, 1), (made.set_in_order_from, 1), (made.lack, 2), (made.rule, 2),
-                (made.lose, 1), (made.discard, 2),
+                (made.lose, 1), (made.discard, 2), (made.requested, 3),
             ]  # fmt: skip
             for number in (-1, 2**32, 2**64, -(2**32)):
                 for call, count in calls:

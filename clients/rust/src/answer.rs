@@ -51,6 +51,8 @@ pub enum Answer {
     Failed,
     /// A rule refused it: mostly the peer's fault, not the caller's.
     Refused(Reason),
+    /// The request that was sent already counts from now on: nothing is to be sent.
+    InFlight(Block),
 }
 
 /// An [`Answer`] without what it carries.
@@ -73,6 +75,7 @@ pub enum Kind {
     Complete,
     Failed,
     Refused,
+    InFlight,
 }
 
 /// Why a rule refused a call.
@@ -93,7 +96,7 @@ pub enum Reason {
     NoSuchBlock,
     /// A block of another length.
     WrongLength,
-    /// The piece doesn't wait for a check.
+    /// The piece is complete, or the block can't be requested from this peer now.
     NotWaiting,
     /// The bytes that were hashed are no longer those held.
     Stale,
@@ -136,7 +139,7 @@ impl fmt::Display for Reason {
             Reason::NoSuchPiece => "no such piece",
             Reason::NoSuchBlock => "no block begins there",
             Reason::WrongLength => "wrong block length",
-            Reason::NotWaiting => "the piece isn't waiting for a check: a block is lacking, or it is complete",
+            Reason::NotWaiting => "the piece is complete, or the block can't be requested from this peer now",
             Reason::Stale => "the bytes that were hashed aren't those that the picker holds now",
             Reason::NotRequested => "the block isn't requested from this peer",
             Reason::WrongDepth => "the depth must be 1 to the option deepest",
@@ -211,6 +214,7 @@ impl Answer {
             13 => Answer::Complete,
             14 => Answer::Failed,
             15 => Answer::Refused(Reason::of(given.reason)),
+            16 => Answer::InFlight(block),
             kind => panic!("libpiecepick answered the kind {kind}, which its interface hasn't"),
         }
     }
@@ -233,6 +237,7 @@ impl Answer {
             Answer::Complete => Kind::Complete,
             Answer::Failed => Kind::Failed,
             Answer::Refused(_) => Kind::Refused,
+            Answer::InFlight(_) => Kind::InFlight,
         }
     }
 }

@@ -58,7 +58,7 @@ pub use job::Job;
 pub use options::{Keeps, Options};
 pub use picker::Picker;
 
-/// The library's version as a number: 10,100 is 1.1.0.
+/// The library's version as a number: 10,200 is 1.2.0.
 pub fn version() -> u32 {
     // SAFETY: it takes nothing.
     unsafe { sys::piecepick_version() }

@@ -142,6 +142,21 @@ impl Picker {
         self.answer(|picker, answer| unsafe { sys::piecepick_late(picker, worker, piece, begin, answer) })
     }
 
+    /// The block that begins there was requested from the peer already, and not by the picker: [`Answer::InFlight`] with the block. The
+    /// connection is older than the picker, or a part of the client chose by itself.
+    ///
+    /// From now on the request counts as one of the picker's own: for the depth, for other peers and for endgame, and as the last of
+    /// [`outstanding_at`](Picker::outstanding_at). It is refused by [`NotWaiting`](crate::Reason::NotWaiting) where the block can't be
+    /// requested from this peer now. Nothing has changed then: the block is stored when it comes, and may be requested from another peer
+    /// before.
+    ///
+    /// # Errors
+    ///
+    /// [`Error::Worker`], [`Error::Piece`], and [`Error::Keeps`] where a journal is kept.
+    pub fn requested(&mut self, worker: u32, piece: u32, begin: u32) -> Result<Answer, Error> {
+        self.answer(|picker, answer| unsafe { sys::piecepick_requested(picker, worker, piece, begin, answer) })
+    }
+
     /// From now on so many blocks may be requested from the peer at a time, until another number is set or the worker's next peer joins.
     pub fn depth(&mut self, worker: u32, depth: u32) -> Result<Answer, Error> {
         self.answer(|picker, answer| unsafe { sys::piecepick_depth(picker, worker, depth, answer) })

@@ -135,6 +135,13 @@ extern "C" {
         begin: u32,
         answer: *mut piecepick_answer,
     ) -> piecepick_status;
+    pub fn piecepick_requested(
+        picker: *mut piecepick_picker,
+        worker: u32,
+        piece: u32,
+        begin: u32,
+        answer: *mut piecepick_answer,
+    ) -> piecepick_status;
     pub fn piecepick_depth(picker: *mut piecepick_picker, worker: u32, depth: u32, answer: *mut piecepick_answer) -> piecepick_status;
     pub fn piecepick_reach(picker: *mut piecepick_picker, worker: u32, level: u32, answer: *mut piecepick_answer) -> piecepick_status;
     pub fn piecepick_alone(picker: *mut piecepick_picker, worker: u32, yes: u32, answer: *mut piecepick_answer) -> piecepick_status;

@@ -66,7 +66,7 @@ fn structs_are_those_of_c() {
     assert_eq!(size_of::<sys::piecepick_answer>(), 24);
     assert_eq!(size_of::<sys::piecepick_options>(), 40);
     assert_eq!(size_of::<sys::piecepick_digest>(), 20);
-    assert_eq!(piecepick::version(), 10_100);
+    assert_eq!(piecepick::version(), 10_200);
 }
 
 #[test]
@@ -400,6 +400,88 @@ fn the_next_peer_works_with_the_others() {
     come_with_both(&mut picker, 1);
     assert_eq!(asked_by(&mut picker, 1), (0, 0, PickRule::Rarest));
     assert_eq!(asked_by(&mut picker, 0), (0, BLOCK, PickRule::Begun));
+}
+
+/// Two peers that have each piece, of which nothing is requested.
+fn with_both(keeps: Keeps) -> Picker {
+    let mut picker = with_peer(keeps);
+    picker.join(1).unwrap();
+    picker.bits(1, &ALL).unwrap();
+    picker.unchoke(1).unwrap();
+    picker
+}
+
+/// A block of which a request is in flight already.
+fn in_flight(piece: u32, begin: usize) -> Result<Answer, Error> {
+    Ok(Answer::InFlight(Block { piece, begin: begin as u32, length: BLOCK as u32 }))
+}
+
+const NOT_NOW: Result<Answer, Error> = Ok(Answer::Refused(Reason::NotWaiting));
+
+#[test]
+fn a_request_that_is_in_flight_already_counts() {
+    let content = content();
+    let mut picker = with_both(Keeps::Nothing);
+    let before = picker.epoch();
+    assert_eq!(asked_by(&mut picker, 0), (0, 0, PickRule::Rarest));
+    let counted = picker.requested(0, 3, BLOCK as u32);
+    assert_eq!((counted, counted.unwrap().kind()), (in_flight(3, BLOCK), Kind::InFlight));
+    assert_eq!((picker.outstanding(0), picker.askers(3, 1), picker.epoch()), (Ok(2), Ok(1), before));
+    assert_eq!(picker.outstanding_at(0, 1).map(Answer::InFlight), counted);
+    // Nobody else is asked for it, and a cancel is due where another peer brings it.
+    assert_eq!(asked_by(&mut picker, 1), (0, BLOCK, PickRule::Begun));
+    assert_eq!(asked_by(&mut picker, 1), (3, 0, PickRule::Begun));
+    assert_eq!(asked_by(&mut picker, 1), (1, 0, PickRule::Rarest));
+    assert_eq!(picker.arrived(1, 3, BLOCK as u32, &piece(&content, 3)[BLOCK..]), Ok(Answer::Stored));
+    assert_eq!(picker.next(0, 0), Ok(Answer::Cancel(Block { piece: 3, begin: BLOCK as u32, length: BLOCK as u32 })));
+}
+
+#[test]
+fn endgame_begins_by_what_is_in_flight_already() {
+    let mut picker = with_both(Keeps::Nothing);
+    picker.want(&[0b1000_0000]).unwrap();
+    let before = picker.epoch();
+    assert_eq!((picker.requested(0, 0, 0), picker.epoch()), (in_flight(0, 0), before));
+    assert_eq!(picker.requested(0, 0, BLOCK as u32), in_flight(0, BLOCK));
+    assert!(picker.epoch() > before);
+    assert_eq!(asked_by(&mut picker, 1), (0, 0, PickRule::Endgame));
+}
+
+#[test]
+fn what_may_not_be_requested_now_is_not_counted() {
+    let content = content();
+    let second = BLOCK as u32;
+    let mut picker = with_both(Keeps::Begun);
+    assert_eq!(picker.requested(2, 0, 0), Ok(Answer::Refused(Reason::NotJoined)));
+    assert_eq!(picker.requested(0, 0, 1), Ok(Answer::Refused(Reason::NoSuchBlock)));
+    assert_eq!(picker.requested(0, 0, PIECE as u32), Ok(Answer::Refused(Reason::NoSuchBlock)));
+    assert_eq!(picker.requested(3, PIECES, 0), Err(Error::Worker));
+    assert_eq!(picker.requested(2, PIECES, 0), Err(Error::Piece));
+    picker.depth(0, 1).unwrap();
+    assert_eq!(picker.requested(0, 0, 0), in_flight(0, 0));
+    assert_eq!(picker.requested(0, 0, second), NOT_NOW); // as many as may be are in flight
+    picker.depth(0, 4).unwrap();
+    assert_eq!((picker.requested(0, 0, 0), picker.requested(1, 0, 0)), (NOT_NOW, NOT_NOW));
+    picker.late(0, 0, 0).unwrap();
+    assert_eq!((picker.requested(0, 0, 0), picker.requested(1, 0, 0)), (NOT_NOW, in_flight(0, 0)));
+    picker.arrived(1, 0, 0, &content[..BLOCK]).unwrap();
+    assert_eq!((picker.requested(1, 0, 0), picker.requested(0, 1, 0)), (NOT_NOW, NOT_NOW)); // held, and a cancel is due
+    assert_eq!(picker.next(0, 0), Ok(Answer::Cancel(FIRST)));
+    picker.set_level(1, 5).unwrap();
+    picker.reach(0, 4).unwrap();
+    assert_eq!(picker.requested(0, 1, 0), NOT_NOW);
+    picker.set_level(1, 0).unwrap();
+    assert_eq!(picker.requested(0, 1, 0), NOT_NOW);
+    picker.set_level(1, 4).unwrap();
+    picker.lack(0, 1).unwrap();
+    assert_eq!(picker.requested(0, 1, 0), NOT_NOW);
+    picker.have(0, 1).unwrap();
+    picker.alone(1, true).unwrap();
+    assert_eq!((picker.requested(1, 5, 0), picker.requested(0, 5, second)), (in_flight(5, 0), NOT_NOW));
+    assert_eq!((picker.requested(0, 1, 0), picker.requested(1, 1, second)), (in_flight(1, 0), NOT_NOW));
+    picker.choke(0).unwrap();
+    assert_eq!(picker.requested(0, 1, 0), NOT_NOW);
+    assert_eq!(with_both(Keeps::Journal).requested(0, 0, 0), Err(Error::Keeps));
 }
 
 #[test]

@@ -25,8 +25,6 @@ pub struct Arguments<'a> {
     pub runs: u32,
     /// The file that the requests are written to.
     pub trace: Option<&'a str>,
-    /// Each kind of call is timed alone.
-    pub calls: bool,
     /// The threads that share a desk, once all else is done.
     pub crowd: Option<Crowd>,
 }
@@ -114,10 +112,7 @@ fn named<'a>(alloc: Global) -> Command<'a> {
 
 /// Adds the arguments that are no options with a number.
 fn with_others<'a>(alloc: Global, command: Command<'a>) -> Result<Command<'a>, AllocError> {
-    command
-        .arg(trace(alloc))?
-        .arg(calls(alloc))?
-        .arg(pieces(alloc))
+    command.arg(trace(alloc))?.arg(pieces(alloc))
 }
 
 impl Number {
@@ -150,13 +145,6 @@ fn trace<'a>(alloc: Global) -> Arg<'a> {
         .action(ArgAction::Set)
 }
 
-fn calls<'a>(alloc: Global) -> Arg<'a> {
-    Arg::new(alloc, "calls")
-        .long("calls")
-        .help("Times each kind of call alone")
-        .action(ArgAction::SetTrue)
-}
-
 fn pieces<'a>(alloc: Global) -> Arg<'a> {
     Arg::new(alloc, "pieces")
         .value_name("PIECES")
@@ -176,7 +164,6 @@ pub fn read<'a>(matches: &ArgMatches<'a>) -> Arguments<'a> {
         },
         runs: number_of(matches, "runs").unwrap_or(3),
         trace: matches.get_str("trace"),
-        calls: matches.get_flag("calls"),
         crowd: crowd(matches),
     }
 }

@@ -1,9 +1,8 @@
-//! A benchmark of the desk: a whole download from a swarm of 51 peers, asked block by block, or each kind of call alone; of the desk that
-//! threads share; and of the picker that keeps no content.
+//! A benchmark of the desk: a whole download from a swarm of 51 peers, asked block by block; of the desk that threads share; and of
+//! the picker that keeps no content.
 #![tactic(auto)]
 
 mod arguments;
-mod calls;
 mod download;
 mod figures;
 mod mix;
@@ -14,7 +13,6 @@ mod threads;
 
 use anyhow::Result;
 use arguments::{Arguments, command, read};
-use calls::{Table, time_calls};
 use download::{Counts, Download};
 use figures::{CountLine, TimeLine, Times, hash_time, peak_memory, play};
 use picker::time_picker;
@@ -83,11 +81,7 @@ fn time<R: Runtime + AllocGlobal + CpuClock + Clock + Threads + Wait + Sync>(
     rt: &R,
     arguments: &Arguments<'_>,
 ) -> Result<()> {
-    if arguments.calls {
-        time_each_call(rt, arguments)?;
-    } else {
-        time_download(rt, arguments)?;
-    }
+    time_download(rt, arguments)?;
     if let Some(crowd) = arguments.crowd {
         time_threads(rt, crowd)?;
     }
@@ -217,33 +211,4 @@ fn counts_and_times<R: Runtime + AllocGlobal + CpuClock>(
 ) -> Result<(Counts, Times)> {
     let times = play(rt, rt.alloc(), workload, download, stretches)?;
     Ok((download.counts(), times))
-}
-
-/// Prints the table of all kinds of calls.
-fn time_each_call<R: Runtime + AllocGlobal + CpuClock>(
-    rt: &R,
-    arguments: &Arguments<'_>,
-) -> Result<()> {
-    let mut least = Table::new(rt.alloc());
-    for _ in 0..arguments.runs.max(1) {
-        take_lesser(rt, arguments.workload, &mut least)?;
-    }
-    tell_table(rt, &least)
-}
-
-/// Times each kind of call once more, and keeps the lesser times.
-fn take_lesser<R: Runtime + AllocGlobal + CpuClock>(
-    rt: &R,
-    workload: Workload,
-    least: &mut Table,
-) -> Result<()> {
-    let table = time_calls(rt, rt.alloc(), workload)?;
-    least.take_lesser(&table)
-}
-
-fn tell_table<R: Runtime>(rt: &R, table: &Table) -> Result<()> {
-    for row in table.rows() {
-        rt.println(row)?;
-    }
-    Ok(())
 }

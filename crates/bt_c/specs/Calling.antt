@@ -1,12 +1,12 @@
 -- What a call does, the numbers that it names tested first.
-use Rattle.std.specs.Prelude.{◌≡◌, ◌≢◌, ℕ, ◌<◌, List, Bool, length, true, false}
+use Rattle.std.specs.Prelude.{◌≡◌, ◌≢◌, ℕ, ◌<◌, List, Bool, ◌||◌, length, true, false}
 use Rattle.std.specs.declared.result.Result.{Result}
 use Rattle.std.specs.declared.result.Result.TheVariants.{Ok, Err}
 use Rattle.bt_meta.specs.Layout.{piece_count}
 use Rattle.bt_meta.specs.WireBits.{HasSpareBit, IsSpelled, wire_len}
 use Rattle.bt_history.specs.declared.event.Action.{Action}
 use Rattle.bt_history.specs.declared.event.Action.TheVariants.{Arrived}
-use Rattle.bt_history.specs.Before.{is_loss}
+use Rattle.bt_history.specs.Before.{is_loss, tells_flight}
 use Rattle.bt_history.specs.declared.call.Reason.TheVariants.{NoSuchPiece, WrongLength}
 use Rattle.bt_history.specs.declared.call.Reply.TheVariants.{Failed, Had, Refused}
 use Rattle.bt_history.specs.Pieces.{content}
@@ -39,13 +39,16 @@ TakesMemory Begun (Arrived p begin bytes) = Unit {0}
 TakesMemory Begun action = ⊥
 TakesMemory Journal action = Unit {0}
 
--- worker w makes this call: its reply is one that the rules allow, and the history has gained just that; or nothing changes. No journal has a
--- call that frees blocks with no check
+-- no journal has the call: it frees blocks with no check, or tells of a request that the picker has not made
+abbrev pub is_unjournaled : Action → Bool
+is_unjournaled action = is_loss action || tells_flight action
+
+-- worker w makes this call: its reply is one that the rules allow, and the history has gained just that; or nothing changes
 abbrev pub Makes : Held → DeskState → ℕ → Action → Outcome → Type 0
 Makes h e w action (Ok r) = IsWorker (state h) w × Gains (state h) e (record { worker = w; action = action; reply = r })
 Makes h e w action (Err Worker) = (IsWorker (state h) w → ⊥) × (e ≡ state h)
 Makes h e w action (Err NoMemory) = TakesMemory (keeping h) action × IsWorker (state h) w × (e ≡ state h)
-Makes h e w action (Err Keeps) = (keeping h ≡ Journal) × (is_loss action ≡ true) × IsWorker (state h) w × (e ≡ state h)
+Makes h e w action (Err Keeps) = (keeping h ≡ Journal) × (is_unjournaled action ≡ true) × IsWorker (state h) w × (e ≡ state h)
 Makes h e w action (Err f) = ⊥
 
 -- worker w makes this call, which names piece p

@@ -4,8 +4,7 @@ ghost use Rattle.bt_history.specs.Setting.{AreRules, setting_of};
 ghost use Rattle.bt_picker.specs.Positions.{Gains};
 ghost use Rattle.bt_picker.specs.Told.{action_told, telling};
 ghost use Rattle.bt_history.specs.Entries.{action_of};
-ghost use Rattle.bt_history.specs.Before.{is_loss};
-ghost use Rattle.bt_c.specs.Calling.{TakesMemory};
+ghost use Rattle.bt_c.specs.Calling.{TakesMemory, is_unjournaled};
 ghost use Rattle.bt_c.specs.declared.engine.Keeping.TheVariants as keeps;
 ghost use Rattle.bt_c.specs.Engines.{content_kept, keeping_of, state_of};
 
@@ -39,7 +38,7 @@ pub enum Engine {
 #[derive(Clone, Copy, Debug, PartialEq, Eq)]
 pub enum Untold {
     NoMemory,
-    /// No journal has such a call: it keeps what is to be lost.
+    /// No journal has such a call: it keeps what is to be lost, and has asked for all that is in flight.
     Journal,
 }
 
@@ -56,7 +55,7 @@ impl From<AllocError> for Untold {
 /// What is reported, as a call that owns what it carries.
 fn owned(alloc: Global, told: Told<'_>) -> Result<Call, Untold>
     ensures ok { IfOk result (λ call. action_of call ≡ action_told told.entry) }
-    ensures journal { result ≡ Err Untold.Journal → is_loss (action_told told.entry) ≡ true }
+    ensures journal { result ≡ Err Untold.Journal → is_unjournaled (action_told told.entry) ≡ true }
 {
     let call = match told {
         Told::Join => Call::Join,
@@ -87,7 +86,9 @@ fn owned(alloc: Global, told: Told<'_>) -> Result<Call, Untold>
         Told::Lack(piece) => Call::Lack(piece),
         Told::Late { piece, begin } => Call::Late { piece, begin },
         Told::Alone(alone) => Call::Alone(alone),
-        Told::Lose(_) | Told::Discard { .. } => return Err(Untold::Journal),
+        Told::Lose(_) | Told::Discard { .. } | Told::Requested { .. } => {
+            return Err(Untold::Journal);
+        }
     };
     Ok(call)
 }
@@ -152,7 +153,7 @@ impl Engine {
         ensures err { OnErr result (state_of self.new ≡ state_of self.old) }
         // Only what takes memory can lack it.
         ensures short { result ≡ Err Untold.NoMemory → TakesMemory (keeping_of self.old) (action_told told.entry) }
-        ensures journal { result ≡ Err Untold.Journal → (keeping_of self.old ≡ keeps.Journal) × (is_loss (action_told told.entry) ≡ true) }
+        ensures journal { result ≡ Err Untold.Journal → (keeping_of self.old ≡ keeps.Journal) × (is_unjournaled (action_told told.entry) ≡ true) }
         ensures keeping { keeping_of self.new ≡ keeping_of self.old }
     {
         match self {
@@ -169,7 +170,7 @@ impl Engine {
         ensures ok { IfOk result (λ reply. Gains (state_of self.old) (state_of self.new) (telling worker told.entry reply)) }
         ensures err { OnErr result (state_of self.new ≡ state_of self.old) }
         ensures short { result ≡ Err Untold.NoMemory → TakesMemory (keeping_of self.old) (action_told told.entry) }
-        ensures journal { result ≡ Err Untold.Journal → (keeping_of self.old ≡ keeps.Journal) × (is_loss (action_told told.entry) ≡ true) }
+        ensures journal { result ≡ Err Untold.Journal → (keeping_of self.old ≡ keeps.Journal) × (is_unjournaled (action_told told.entry) ≡ true) }
         ensures keeping { keeping_of self.new ≡ keeping_of self.old }
     {
         match self {

@@ -1,25 +1,26 @@
 -- What an entry that is allowed shows of the history before it.
-use Rattle.std.proofs.Common.{◌≡◌, ◌≢◌, ◌⊎◌, ℕ, ◌==◌, ◌<◌, Bool, true, false, not, ◌&&◌, ◌||◌, List, [], ◌∷◌, Option, None, Some, refl, ap, sym, ◌∙◌}
+use Rattle.std.proofs.Common.{arith, ◌≡◌, ◌≢◌, ◌⊎◌, ℕ, ◌==◌, ◌*◌, ◌/◌, ◌<◌, Bool, true, false, not, ◌&&◌, ◌||◌, List, [], ◌∷◌, Option, None, Some, refl, ap, sym, ◌∙◌}
 use Rattle.std.proofs.Common.{subst, inl, inr, ⊎_elim}
 use Rattle.std.specs.Prelude.{if◌then◌else◌, nat_le, nat_lt, ⊤}
-use Rattle.std.proofs.lemmas.Bool.{and_parts, not-true, not-false, or_parts, leb-false, eqb-true, cases_Bool}
+use Rattle.std.proofs.lemmas.Bool.{and_from, and_parts, not-true, not-false, or_parts, leb-false, eq-eqb, eqb-true, cases_Bool, lt-ltb}
 use Rattle.bt_meta.specs.declared.block.Block.{Block}
-use Rattle.bt_meta.specs.Layout.{Layout, piece_count, hash_of}
+use Rattle.bt_meta.specs.Layout.{Layout, block, block_count, block_size, piece_count, hash_of}
 use Rattle.sha1.specs.Sha1.{sha1}
 use Rattle.bt_history.specs.declared.call.Reason.{Reason}
 use Rattle.bt_history.specs.declared.call.Reply.{Reply}
-use Rattle.bt_history.specs.declared.call.Reply.TheVariants.{Request, Stored, Completed, Dropped, Had, Failed, Refused}
+use Rattle.bt_history.specs.declared.call.Reply.TheVariants.{InFlight, Request, Stored, Completed, Dropped, Had, Failed, Refused}
 use Rattle.bt_history.specs.declared.event.Action.{Action}
-use Rattle.bt_history.specs.declared.event.Action.TheVariants.{Next, Arrived, Settle, Lose, Discard}
+use Rattle.bt_history.specs.declared.event.Action.TheVariants.{Next, Arrived, Settle, Lose, Discard, Requested}
 use Rattle.bt_history.specs.declared.event.Event.{Event}
 use Rattle.bt_history.specs.Setting.{Setting, some_block, some_block_of, each_block_of, is_block}
-use Rattle.bt_history.specs.History.{History, settles, is_had, is_failed}
-use Rattle.bt_history.specs.Peers.{asked, asked_count, due, depth_of, overdue}
+use Rattle.bt_history.specs.History.{History, settles, is_had, is_failed, requested_by}
+use Rattle.bt_history.specs.Peers.{asked, asked_count, due, depth_of, is_open, overdue}
 use Rattle.bt_history.specs.Pieces.{held, full, content, gives, had, asked_of_some, asker_count, unasked, wanted, endgame}
-use Rattle.bt_history.specs.Next.{Answer, Exactly, usable, tops, continues, starts, rises, doubles, rushes, next_answer}
+use Rattle.bt_history.specs.Next.{Answer, Exactly, usable, tops, continues, starts, rises, doubles, may_count, rushes, next_answer}
 use Rattle.bt_history.specs.Legal.{same_bytes, first_cause, refusal, answer, answer_unless, arrived_answer, settled_answer, Permits, IsAllowed}
-use Rattle.bt_history.specs.Legal.{causes}
+use Rattle.bt_history.specs.Legal.{block_from, causes}
 use Rattle.bt_history.specs.Logs.{answers, answers_next, answers_arrived, call_mark}
+use Rattle.bt_history.proofs.Below.{any_found, any_witness}
 use Rattle.bt_history.proofs.Delays.{nobody_asked}
 use Rattle.bt_history.proofs.NextCases.{next_is, next_answers, next_request}
 
@@ -130,6 +131,16 @@ unasked_facts s h b is = or_parts (held h b) (asked_of_some s h b) (not-true _ i
 pub top_usable : (s : Setting) (h : History) (w : ℕ) (b : Block) → tops s h w b ≡ true → usable s h w b ≡ true
 top_usable s h w b is = (and_parts (usable s h w b) _ is).0
 
+usable_kind : (s : Setting) (h : History) (w : ℕ) (b : Block) → w < s.workers → usable s h w b ≡ true
+    → (asked h w b ≡ false) × (held h b ≡ false) × ((asked_of_some s h b ≡ false) ⊎ (endgame s h ≡ true))
+    × ((asked_of_some s h b ≡ false) ⊎ (nat_lt (asker_count s h b) s.askers ≡ true))
+    × ((asked_of_some s h b ≡ false) ⊎ (rushes s h w ≡ true))
+usable_kind s h w b lt is =
+    let free = unasked_facts s h b (and_parts (unasked s h b) _ is).0 in
+    let in_time = not-true (overdue h w b) (and_parts (not (overdue h w b)) _ (and_parts (gives h w b.piece) _ (and_parts (wanted s h b.piece) _
+    (and_parts (unasked s h b) _ is).1).1).1).0 in
+    (nobody_asked s h w b lt free.1 in_time, free.0, inl free.1, inl free.1, inl free.1)
+
 request_kind : (s : Setting) (h : History) (w : ℕ) (b : Block) → w < s.workers
     → (rises s h w b ≡ true) ⊎ ((continues s h w b ≡ true) ⊎ ((starts s h w b ≡ true) ⊎
     (((rushes s h w && (endgame s h && some_block s.torrent (doubles s h w))) ≡ true) × (doubles s h w b ≡ true))))
@@ -155,11 +166,7 @@ request_kind s h w b lt kind = ⊎_elim
       from_top : tops s h w b ≡ true → (asked h w b ≡ false) × (held h b ≡ false) × ((asked_of_some s h b ≡ false) ⊎ (endgame s h ≡ true))
           × ((asked_of_some s h b ≡ false) ⊎ (nat_lt (asker_count s h b) s.askers ≡ true))
           × ((asked_of_some s h b ≡ false) ⊎ (rushes s h w ≡ true))
-      from_top is =
-          let free = unasked_facts s h b (and_parts (unasked s h b) _ (top_usable s h w b is)).0 in
-          let in_time = not-true (overdue h w b) (and_parts (not (overdue h w b)) _ (and_parts (gives h w b.piece) _ (and_parts (wanted s h b.piece) _
-          (and_parts (unasked s h b) _ (top_usable s h w b is)).1).1).1).0 in
-          (nobody_asked s h w b lt free.1 in_time, free.0, inl free.1, inl free.1, inl free.1)
+      from_top is = usable_kind s h w b lt (top_usable s h w b is)
 
 next_facts : (s : Setting) (h : History) (w : ℕ) (b : Block) → w < s.workers → Permits s.torrent (next_answer s h w) (Request b) →
     RequestFacts s h w b
@@ -191,8 +198,109 @@ request_next s h e b allowed is =
     subst (λ (r : Reply). Permits s.torrent (next_answer s h e.worker) r) is
     (subst (λ (c : Action). Permits s.torrent (answer s h e.worker c) e.reply) call.1 permitted)
 
-pub request_facts : (s : Setting) (h : History) (e : Event) (b : Block) → IsAllowed s h e → e.reply ≡ Request b → RequestFacts s h e.worker b
-request_facts s h e b allowed is = next_facts s h e.worker b (worker_below s h e allowed) (request_next s h e b allowed is)
+-- ---- requests in flight already
+
+-- only a call that tells of one is replied so
+flight_alone : (call : Action) (b : Block) → answers (call_mark call) (InFlight b) ≡ true → (p : ℕ) × (begin : ℕ) × (call ≡ Requested p begin)
+flight_alone (Requested p begin) b is = (p, begin, refl)
+flight_alone _ b is = absurd (cc is)
+
+-- what such a reply shows of the history before it: there is such a block, and its request may count
+pub record FlightFacts (s : Setting) (h : History) (e : Event) (b : Block) : Type 0 where
+  pub piece : ℕ
+  pub index : ℕ
+  pub within : piece < piece_count s.torrent
+  pub inside : index < block_count s.torrent piece
+  pub call : e.action ≡ Requested piece (block_size * index)
+  pub is : b ≡ block s.torrent piece index
+  pub counts : may_count s h e.worker b ≡ true
+
+quotient : (k : ℕ) → block_size * k / block_size ≡ k
+quotient k = omega arith
+
+pub flight_facts : (s : Setting) (h : History) (e : Event) (b : Block) → IsAllowed s h e → e.reply ≡ InFlight b → FlightFacts s h e b
+flight_facts s h e b allowed is =
+    let call = flight_alone e.action b (subst (λ (r : Reply). answers (call_mark e.action) r ≡ true) is (allowed_answers s h e allowed)) in
+    let p = call.0 in
+    let begin = call.1 in
+    let no_reason = no_cause s h e (λ reason refused. absurd (cc (refused, is))) allowed in
+    let none = none_holds (causes s h e.worker (Requested p begin)) (ap (refusal s h e.worker) (sym call.2) ∙ no_reason) in
+    let found = any_witness (block_count s.torrent p) (λ k. (block s.torrent p k).begin == begin) (not-false _ none.1.1.0) in
+    let begins : begin ≡ block_size * found.0 = sym (eqb-true (block_size * found.0) begin found.2) in
+    let index : begin / block_size ≡ found.0 = ap (λ (n : ℕ). n / block_size) begins ∙ quotient found.0 in
+    let named : InFlight b ≡ InFlight (block_from s.torrent p begin) =
+    subst (λ (r : Reply). r ≡ InFlight (block_from s.torrent p begin)) is
+    (subst (λ (c : Action). Permits s.torrent (answer s h e.worker c) e.reply) call.2 (answered s h e no_reason allowed)) in
+    let at : b ≡ block_from s.torrent p begin = flight_block b _ named in
+    record {
+      piece = p;
+      index = found.0;
+      within = leb-false (piece_count s.torrent) p none.1.0;
+      inside = found.1;
+      call = call.2 ∙ ap (Requested p) begins;
+      is = at ∙ ap (block s.torrent p) index;
+      counts = ap (may_count s h e.worker) at ∙ not-false _ none.1.1.1.0;
+    }
+  where
+    block_in : Reply → Block → Block
+    block_in (InFlight c) other = c
+    block_in r other = other
+
+    flight_block : (x y : Block) → InFlight x ≡ InFlight y → x ≡ y
+    flight_block x y same = ap (λ (r : Reply). block_in r x) same
+
+-- a request that may count is one of a usable block
+pub count_usable : (s : Setting) (h : History) (w : ℕ) (b : Block) → may_count s h w b ≡ true → usable s h w b ≡ true
+count_usable s h w b is =
+    (and_parts (not (nat_le (depth_of s h w) (asked_count s h w))) _ (and_parts (is_open h w) _ (and_parts (not (some_block s.torrent (due h w))) _ is).1).1).1
+
+counted_facts : (s : Setting) (h : History) (e : Event) (b : Block) → IsAllowed s h e → e.reply ≡ InFlight b → RequestFacts s h e.worker b
+counted_facts s h e b allowed is =
+    let facts = flight_facts s h e b allowed is in
+    let w = e.worker in
+    let owed = and_parts (not (some_block s.torrent (due h w))) _ facts.counts in
+    let room = and_parts (not (nat_le (depth_of s h w) (asked_count s h w))) (usable s h w b) (and_parts (is_open h w) _ owed.1).1 in
+    let kind = usable_kind s h w b (worker_below s h e allowed) room.1 in
+    record {
+      block = ap (is_block s.torrent) facts.is ∙ block_inside s.torrent facts.piece facts.index facts.within facts.inside;
+      not_asked = kind.0;
+      not_held = kind.1;
+      none_due = not-true _ owed.0;
+      room = leb-false (depth_of s h w) (asked_count s h w) (not-true _ room.0);
+      alone = kind.2;
+      few = kind.3;
+      rushing = kind.4;
+    }
+  where
+    block_inside : (t : Layout) (p k : ℕ) → p < piece_count t → k < block_count t p → is_block t (block t p k) ≡ true
+    block_inside t p k lt lk =
+        let b = block t p k in
+        and_from _ _ (lt-ltb p (piece_count t) lt) (any_found (block_count t p) (λ j. ((block t p j).begin == b.begin) && ((block t p j).len == b.len)) k lk
+        (and_from (b.begin == b.begin) (b.len == b.len) (eq-eqb b.begin b.begin refl) (eq-eqb b.len b.len refl)))
+
+-- ---- what a reply asks for
+
+-- a reply asks for a block, or counts one as asked, or neither
+pub request_kinds : (r : Reply) (b : Block) → requested_by r ≡ b ∷ [] → (r ≡ Request b) ⊎ (r ≡ InFlight b)
+request_kinds (Request a) b is = inl (ap Request (first_is a b is)) where
+  first_is : (x y : Block) → x ∷ [] ≡ y ∷ [] → x ≡ y
+  first_is x y same = ap (first_or x) same where
+    first_or : Block → List Block → Block
+    first_or other [] = other
+    first_or other (c ∷ cs) = c
+request_kinds (InFlight a) b is = inr (ap InFlight (first_is a b is)) where
+  first_is : (x y : Block) → x ∷ [] ≡ y ∷ [] → x ≡ y
+  first_is x y same = ap (first_or x) same where
+    first_or : Block → List Block → Block
+    first_or other [] = other
+    first_or other (c ∷ cs) = c
+request_kinds r b is = absurd (cc is)
+
+pub request_facts : (s : Setting) (h : History) (e : Event) (b : Block) → IsAllowed s h e → requested_by e.reply ≡ b ∷ [] → RequestFacts s h e.worker b
+request_facts s h e b allowed is = ⊎_elim
+    (λ (asks : e.reply ≡ Request b). next_facts s h e.worker b (worker_below s h e allowed) (request_next s h e b allowed asks))
+    (λ (counts : e.reply ≡ InFlight b). counted_facts s h e b allowed counts)
+    (request_kinds e.reply b is)
 
 -- what is requested is usable, or it is asked a second time in endgame
 pub usable_or_doubles : (s : Setting) (h : History) (e : Event) (b : Block) → IsAllowed s h e → e.reply ≡ Request b

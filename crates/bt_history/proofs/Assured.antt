@@ -7,6 +7,7 @@ use Rattle.bt_history.proofs.Askers.{askers_few}
 use Rattle.bt_history.proofs.Depths.{so_far_bounded}
 use Rattle.bt_history.proofs.Endgame.{second_has_few}
 use Rattle.bt_history.proofs.HeldLaws.{endgame_asks_all, had_facts, had_hash, held_unasked, second_in_endgame}
+use Rattle.bt_history.proofs.Allowed.{flight_facts}
 use Rattle.bt_history.proofs.Levels.{higher_first, level_bounded}
 use Rattle.bt_history.proofs.LineLaws.{asked_and_due}
 use Rattle.bt_history.proofs.Listed.{lists_asked}
@@ -31,6 +32,7 @@ assured s h legal = record {
   opened = λ e b allowed is unordered fresh many. few_open s h e b allowed is unordered many fresh;
   rarest = λ e b allowed is unordered some room c inside fits same.
       (leads_all s h e b allowed is unordered legal some room c inside fits same).0;
+  counted = λ e b allowed is. (flight_facts s h e b allowed is).counts;
   listed = λ q. lists_asked s h q legal;
   few = λ q. asked_and_due s h q legal;
   bounded = λ q. so_far_bounded s h q legal;

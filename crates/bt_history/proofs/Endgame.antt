@@ -10,7 +10,7 @@ use Rattle.bt_history.specs.declared.event.Action.{Action}
 use Rattle.bt_history.specs.declared.event.Action.TheVariants.{Join, Bits, Have, Choke, Unchoke, Arrived, Leave, Haves, Lack}
 use Rattle.bt_history.specs.declared.event.Event.{Event}
 use Rattle.bt_history.specs.Setting.{Setting, deepest_line, some_block}
-use Rattle.bt_history.specs.History.{History, counts, own_call}
+use Rattle.bt_history.specs.History.{History, counts, own_call, requested_by}
 use Rattle.bt_history.specs.Peers.{asked, asked_count, depth_of, due, expected, flag, is_open, joined, joined_after, late, late_after, overdue, releases}
 use Rattle.bt_history.specs.Peers.{resets, shows, shows_after}
 use Rattle.bt_history.specs.Pieces.{asked_of_some, availability, awaited, endgame, had, held, held_or_asked, interesting, wanted}
@@ -47,7 +47,7 @@ second_has_few s h e other b legal allowed is two = ⊎_elim
     absurd (true≢false (sym two ∙ any_fails s.workers (λ w. expected h w b) other alone
     (asked_below s h other b legal (and_parts (asked h other b) (not (overdue h other b)) two).0))))
     (λ (few : rushes s h e.worker ≡ true). ltb-true (asked_count s h e.worker) s.rush few)
-    (request_facts s h e b allowed is).rushing
+    (request_facts s h e b allowed (ap requested_by is)).rushing
 
 -- ---- what joined peers show stays
 

@@ -14,7 +14,7 @@ use Rattle.bt_history.specs.declared.event.Action.{Action}
 use Rattle.bt_history.specs.declared.event.Action.TheVariants.{Settle, Lose, Discard}
 use Rattle.bt_history.specs.declared.event.Event.{Event}
 use Rattle.bt_history.specs.Setting.{Setting, is_block, each_block, each_block_of}
-use Rattle.bt_history.specs.History.{History, own_call, same_begin, stored, stores, bytes_for, frees, freed, is_failed, is_had, loses, lost, settles, passed, requested}
+use Rattle.bt_history.specs.History.{History, own_call, same_begin, stored, stores, bytes_for, frees, freed, is_failed, is_had, loses, lost, settles, passed, requested, requested_by}
 use Rattle.bt_history.specs.Peers.{asked, asks, expected, lasts, overdue, resets}
 use Rattle.bt_history.specs.Pieces.{kept, held, content, joined_below, full, had, asked_of_some, held_or_asked, unasked, awaited, endgame, was_endgame}
 use Rattle.bt_history.specs.Legal.{IsLegal, IsAllowed, causes, refusal, same_bytes}
@@ -23,7 +23,7 @@ use Rattle.bt_history.proofs.SameBegin.{held_at}
 use Rattle.bt_history.proofs.Allowed.{request_facts, check_facts, passed_hash, had_reply, failed_reply, worker_below, no_cause, none_holds, settle_facts}
 use Rattle.bt_history.proofs.Arrivals.{stored_unheld}
 use Rattle.bt_history.proofs.Delays.{expected_at, expected_cases}
-use Rattle.bt_history.proofs.LineLaws.{block_index, Asks, asks_or_none}
+use Rattle.bt_history.proofs.LineLaws.{block_index, Asks, asking_stores_none, asks_or_none}
 
 -- ---- what an entry leaves
 
@@ -38,7 +38,7 @@ stored_cases e b = either (stored e b) where
 storing_asks_nothing : (q : ℕ) (e : Event) (b : Block) → is_some (stored e b) ≡ true → requested q e ≡ []
 storing_asks_nothing q e b is = ⊎_elim
     (λ (asking : (c : Block) × Asks q e c). absurd (false≢true
-    (sym (ap (λ (r : Reply). is_some (if stores r then bytes_for b e.action else None)) asking.1.reply) ∙ is)))
+    (sym (ap (λ (x : Bool). is_some (if x then bytes_for b e.action else None)) (asking_stores_none e.reply asking.0 asking.1.reply)) ∙ is)))
     (λ (none : requested q e ≡ []). none)
     (asks_or_none q e)
 
@@ -229,7 +229,7 @@ doubles_after_endgame s (e ∷ h) q other b legal lq lo apart one two = ⊎_elim
 pub second_in_endgame : (s : Setting) (h : History) (e : Event) (other : ℕ) (b : Block) → IsLegal s h → IsAllowed s h e → e.reply ≡ Request b
     → expected h other b ≡ true → endgame s h ≡ true
 second_in_endgame s h e other b legal allowed is two =
-    let facts = request_facts s h e b allowed is in
+    let facts = request_facts s h e b allowed (ap requested_by is) in
     ⊎_elim
     (λ (alone : asked_of_some s h b ≡ false).
     absurd (true≢false (sym two ∙ any_fails s.workers (λ w. expected h w b) other alone

@@ -9,7 +9,7 @@ use Rattle.std.proofs.Math.Bool.{and-true}
 use Rattle.bt_meta.specs.declared.block.Block.{Block}
 use Rattle.bt_meta.specs.Layout.{Layout, piece_count, block_count, block}
 use Rattle.bt_history.specs.declared.call.Reply.{Reply}
-use Rattle.bt_history.specs.declared.call.Reply.TheVariants.{Request, Idle, NothingLeft, Refused}
+use Rattle.bt_history.specs.declared.call.Reply.TheVariants.{InFlight, Request, Idle, NothingLeft, Refused}
 use Rattle.bt_history.specs.declared.event.Action.{Action}
 use Rattle.bt_history.specs.declared.event.Action.TheVariants.{Join, Choke, Next, Arrived, Settle, Leave, Want, Release, Level, Levels, Lack, Late, Alone, Lose, Discard}
 use Rattle.bt_history.specs.declared.event.Event.{Event}
@@ -26,7 +26,7 @@ use Rattle.bt_history.specs.Legal.{IsLegal, IsAllowed, place_at}
 use Rattle.bt_history.specs.Logs.{answers, call_mark}
 use Rattle.bt_history.specs.Epochs.{asked_alone, begins_endgame, epoch, is_idle, is_request, pass_by, passes_by, stirs, stores_beyond, unsettles}
 use Rattle.bt_history.proofs.Below.{any_fails, any_none, any_found, one_alone, any_witness, all_at, all_found}
-use Rattle.bt_history.proofs.Allowed.{allowed_answers, top_usable, usable_or_doubles, worker_below}
+use Rattle.bt_history.proofs.Allowed.{allowed_answers, count_usable, flight_facts, request_kinds, top_usable, usable_or_doubles, worker_below}
 use Rattle.bt_history.proofs.Arrivals.{stored_unheld}
 use Rattle.bt_history.proofs.Askers.{count_less}
 use Rattle.bt_history.proofs.Endgame.{awaited_on}
@@ -50,7 +50,7 @@ record Calm (s : Setting) (h : History) (e : Event) : Type 0 where
   pub alone_same : (q : ℕ) (before : Bool) → alone_after (own_call q e) before ≡ before
   pub stores_own : (b : Block) → is_some (stored e b) ≡ true
       → (expected h e.worker b ≡ true) × (asker_count s h b ≡ 1) × (is_late_at_some s h b ≡ false)
-  pub begins_none : (b : Block) → e.reply ≡ Request b → (not (endgame s h) && endgame s (e ∷ h)) ≡ false
+  pub begins_none : (b : Block) → requested_by e.reply ≡ b ∷ [] → (not (endgame s h) && endgame s (e ∷ h)) ≡ false
 
 calm_resets : (call : Action) (x : Bool) → unsettles call ≡ false → resets (if x then Some call else None) ≡ false
 calm_resets call false is = refl
@@ -115,6 +115,16 @@ idle_says Idle is = record { asks = refl; stores_none = refl; fails = refl; pass
 idle_says NothingLeft is = record { asks = refl; stores_none = refl; fails = refl; passes = refl; cancels = λ b. refl }
 idle_says r is = absurd (cc is)
 
+-- a reply that asks is a request, which counts
+asking_is_request : (r : Reply) (b : Block) → requested_by r ≡ b ∷ [] → is_request r ≡ true
+asking_is_request (Request a) b is = refl
+asking_is_request (InFlight a) b is = refl
+asking_is_request r b is = absurd (cc is)
+
+asking_counts : (r : Reply) (b : Block) → requested_by r ≡ b ∷ [] → counts r ≡ true
+asking_counts (Refused reason) b is = absurd (cc is)
+asking_counts r b is = refl
+
 -- a refused entry changes nothing
 refused_calm : (s : Setting) (h : History) (e : Event) → counts e.reply ≡ false → Calm s h e
 refused_calm s h e refused = record {
@@ -128,7 +138,7 @@ refused_calm s h e refused = record {
   alone_same = λ q before. ap (λ (x : Bool). alone_after (if x && (e.worker == q) then Some e.action else None) before) refused;
   stores_own = λ b is. absurd
       (false≢true (sym (ap (λ (x : Bool). is_some (if x then bytes_for b e.action else None)) (refused_says e.reply refused).stores_none) ∙ is));
-  begins_none = λ b is. absurd (false≢true (sym refused ∙ ap counts is));
+  begins_none = λ b is. absurd (false≢true (sym refused ∙ asking_counts e.reply b is));
 }
 
 -- a stored block that its own peer alone was asked for, and wasn't late with
@@ -171,7 +181,7 @@ still_calm s h e settled begun_none within = record {
   delays_none = λ q b. calm_delays e.action (counts e.reply && (e.worker == q)) b settled;
   alone_same = λ q before. calm_alone e.action (counts e.reply && (e.worker == q)) before settled;
   stores_own = λ b is. stored_alone s h e b e.action within is;
-  begins_none = λ b is. sym (ap (λ (r : Reply). is_request r && (not (endgame s h) && endgame s (e ∷ h))) is) ∙ begun_none;
+  begins_none = λ b is. sym (ap (λ (x : Bool). x && (not (endgame s h) && endgame s (e ∷ h))) (asking_is_request e.reply b is)) ∙ begun_none;
 }
 
 calm : (s : Setting) (h : History) (e : Event) → stirs s h e ≡ false → Calm s h e
@@ -467,13 +477,16 @@ module _ (s : Setting) (h : History) (e : Event) (allowed : IsAllowed s h e) (st
       let named = asking r e b asks_it in
       let a = named.0 in
       let at : a.piece ≡ b.piece = eqb-true a.piece b.piece (and_parts (a.piece == b.piece) (a.begin == b.begin) named.2).0 in
-      let reply : e.reply ≡ Request a = named.1.reply in
+      let of_owner : usable s h e.worker a ≡ true → r ≡ w = λ fits.
+      sym named.1.worker ∙ own_alone s h w e.worker a.piece lw (subst (λ (p : ℕ). is_own s h w p ≡ true) (sym at) is) (usable_part s h e.worker a fits) in
       ⊎_elim
-      (λ (fits : usable s h e.worker a ≡ true).
-      sym named.1.worker ∙ own_alone s h w e.worker a.piece lw (subst (λ (p : ℕ). is_own s h w p ≡ true) (sym at) is) (usable_part s h e.worker a fits))
+      (λ (reply : e.reply ≡ Request a). ⊎_elim
+      of_owner
       (λ (again : (endgame s h ≡ true) × (doubles s h e.worker a ≡ true)). absurd (false≢true (sym none
       ∙ awaited_touched s h c again.0 (subst (λ (p : ℕ). awaited s h p ≡ true) (at ∙ same) (doubled_awaited s h e a allowed reply again.1)) inside)))
-      (usable_or_doubles s h e a allowed reply)
+      (usable_or_doubles s h e a allowed reply))
+      (λ (counts : e.reply ≡ InFlight a). of_owner (count_usable s h e.worker a (flight_facts s h e a allowed counts).counts))
+      (request_kinds e.reply a named.1.reply)
 
 -- ---- a peer that the entry tells nothing of
 

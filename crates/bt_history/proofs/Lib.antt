@@ -22,6 +22,7 @@ pub mod Endgame
 pub mod Idling
 pub mod Sending
 pub mod TakingBack
+pub mod Flights
 pub mod Owning
 pub mod Levels
 pub mod Delaying

@@ -11,11 +11,11 @@ use Rattle.std.proofs.lemmas.List.Filters.{length-filter_both}
 use Rattle.bt_meta.specs.declared.block.Block.{Block}
 use Rattle.bt_meta.specs.Layout.{Layout, piece_count, block_count, block, block_size}
 use Rattle.bt_history.specs.declared.call.Reply.{Reply}
-use Rattle.bt_history.specs.declared.call.Reply.TheVariants.{Request}
+use Rattle.bt_history.specs.declared.call.Reply.TheVariants.{Completed, InFlight, Request, Stored}
 use Rattle.bt_history.specs.declared.event.Event.{Event}
 use Rattle.bt_history.specs.Counting.{count_below}
 use Rattle.bt_history.specs.Setting.{Setting, some_block, some_block_of, is_block, count_blocks}
-use Rattle.bt_history.specs.History.{History, own_call, same_begin, stored, requested, requested_by, cancelled}
+use Rattle.bt_history.specs.History.{History, own_call, same_begin, stored, stores, requested, requested_by, cancelled}
 use Rattle.bt_history.specs.Peers.{asked, asked_count, outstanding, has_place, AreApart, due, due_count, dues, resets, releases, lasts}
 use Rattle.bt_history.specs.Peers.{told_depth, told_after, depth_of, depth_so_far}
 use Rattle.bt_history.specs.Legal.{IsLegal}
@@ -124,26 +124,33 @@ unfolding AreBlocks
 blocks_either t true bs are = tt
 blocks_either t false bs are = are
 
--- a reply is a request, or asks for nothing
-pub request_or_none : (r : Reply) → ((b : Block) × (r ≡ Request b)) ⊎ (requested_by r ≡ [])
+-- a reply asks for one block, or for nothing
+pub request_or_none : (r : Reply) → ((b : Block) × (requested_by r ≡ b ∷ [])) ⊎ (requested_by r ≡ [])
 request_or_none (Request b) = inl (b, refl)
+request_or_none (InFlight b) = inl (b, refl)
 request_or_none r = inr refl
+
+-- a reply that asks stores nothing
+pub asking_stores_none : (r : Reply) (b : Block) → requested_by r ≡ b ∷ [] → stores r ≡ false
+asking_stores_none Stored b is = absurd (cc is)
+asking_stores_none Completed b is = absurd (cc is)
+asking_stores_none r b is = refl
 
 -- what an entry asked of q: a block that its reply names, of q's own worker, or nothing
 pub record Asks (q : ℕ) (e : Event) (b : Block) : Type 0 where
   pub worker : e.worker ≡ q
-  pub reply : e.reply ≡ Request b
+  pub reply : requested_by e.reply ≡ b ∷ []
   pub only : requested q e ≡ b ∷ []
 
 pub asks_or_none : (q : ℕ) (e : Event) → ((b : Block) × Asks q e b) ⊎ (requested q e ≡ [])
 asks_or_none q e = ⊎_elim
     (λ (same : e.worker ≡ q). ⊎_elim
-    (λ (named : (b : Block) × (e.reply ≡ Request b)). inl (
+    (λ (named : (b : Block) × (requested_by e.reply ≡ b ∷ [])). inl (
       named.0,
       record {
         worker = same;
         reply = named.1;
-        only = ap (λ (x : Bool). if x then requested_by e.reply else []) (eq-eqb e.worker q same) ∙ ap requested_by named.1;
+        only = ap (λ (x : Bool). if x then requested_by e.reply else []) (eq-eqb e.worker q same) ∙ named.1;
       },
     ))
     (λ (none : requested_by e.reply ≡ []). inr (ap (λ (bs : List Block). if e.worker == q then bs else []) none ∙ empty (e.worker == q)))

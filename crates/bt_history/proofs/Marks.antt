@@ -5,11 +5,11 @@ use Rattle.bt_meta.specs.declared.block.Block.{Block}
 use Rattle.bt_meta.specs.contracts.block.BlockPartialEq.TheImpl as blocks
 use Rattle.bt_history.specs.declared.call.Reason.{Reason}
 use Rattle.bt_history.specs.declared.call.Reply.{Reply}
-use Rattle.bt_history.specs.declared.call.Reply.TheVariants.{Joined, Noted, Quiet, Cancel, Request, Choked, PipeFull, Idle, NothingLeft, Stored}
+use Rattle.bt_history.specs.declared.call.Reply.TheVariants.{Joined, Noted, Quiet, Cancel, Request, InFlight, Choked, PipeFull, Idle, NothingLeft, Stored}
 use Rattle.bt_history.specs.declared.call.Reply.TheVariants.{Completed, Dropped, Had, Failed, Refused}
 use Rattle.bt_history.specs.declared.mark.CallMark.{CallMark}
 use Rattle.bt_history.specs.declared.mark.CallMark.TheVariants.{Join, Bits, Have, Choke, Unchoke, Next, Arrived, Settle, Leave, Want, Haves, Depth}
-use Rattle.bt_history.specs.declared.mark.CallMark.TheVariants.{Release, Level, Levels, InOrder, Reach, InOrderFrom, Lack, Late, Alone}
+use Rattle.bt_history.specs.declared.mark.CallMark.TheVariants.{Release, Level, Levels, InOrder, Reach, InOrderFrom, Lack, Late, Alone, Requested}
 use Rattle.bt_history.specs.declared.mark.Mark.{Mark}
 use Rattle.bt_history.specs.contracts.call.ReasonPartialEq.TheImpl as reasons
 use denote.Enum.Bare.{same_true}
@@ -37,6 +37,7 @@ same_reply (Noted false) (Noted false) is = refl
 same_reply Quiet Quiet is = refl
 same_reply (Cancel x) (Cancel y) is = ap Cancel (same_block x y is)
 same_reply (Request x) (Request y) is = ap Request (same_block x y is)
+same_reply (InFlight x) (InFlight y) is = ap InFlight (same_block x y is)
 same_reply Choked Choked is = refl
 same_reply PipeFull PipeFull is = refl
 same_reply Idle Idle is = refl
@@ -93,6 +94,11 @@ same_call (Late p begin) (Late q start) is =
     let piece = eqb-true p q parts.0 in
     let place = eqb-true begin start parts.1 in
     λ i. Late (piece i) (place i)
+same_call (Requested p begin) (Requested q start) is =
+    let parts = and_parts (p == q) (begin == start) is in
+    let piece = eqb-true p q parts.0 in
+    let place = eqb-true begin start parts.1 in
+    λ i. Requested (piece i) (place i)
 same_call (Alone true) (Alone true) is = refl
 same_call (Alone false) (Alone false) is = refl
 same_call a b is = absurd (false≢true is)

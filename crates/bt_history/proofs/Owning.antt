@@ -13,7 +13,7 @@ use Rattle.bt_history.specs.declared.event.Action.TheVariants.{Alone, Next}
 use Rattle.bt_history.specs.declared.event.Event.{Event}
 use Rattle.bt_history.specs.Before.{never_alone, resumes_unowned, tells_alone, usable_unowned}
 use Rattle.bt_history.specs.Counting.{all_below}
-use Rattle.bt_history.specs.History.{History, counts, own_call}
+use Rattle.bt_history.specs.History.{History, counts, own_call, requested_by}
 use Rattle.bt_history.specs.Legal.{IsAllowed, causes, refusal}
 use Rattle.bt_history.specs.Next.{doubles, resumes, usable}
 use Rattle.bt_history.specs.Peers.{alone, alone_after, expected, is_open, joined, overdue, shows}
@@ -146,7 +146,7 @@ asked_first s h e b allowed is free = ⊎_elim
     (λ (fits : usable s h e.worker b ≡ true). fits)
     (λ (again : (endgame s h ≡ true) × (doubles s h e.worker b ≡ true)). absurd (false≢true
     (sym (not-true (held_or_asked s h b) free) ∙ awaited_touched s h b again.0 (doubled_awaited s h e b allowed is again.1)
-    (request_facts s h e b allowed is).block)))
+    (request_facts s h e b allowed (ap requested_by is)).block)))
     (usable_or_doubles s h e b allowed is)
 
 pub usable_part : (s : Setting) (h : History) (q : ℕ) (b : Block) → usable s h q b ≡ true → is_free_for s h q b.piece ≡ true

@@ -3,7 +3,7 @@ use Rattle.std.specs.Prelude.{◌≡◌, ◌≢◌, ◌∷◌, ℕ, ◌+◌, ◌
 use Rattle.sha1.specs.Sha1.{sha1}
 use Rattle.bt_meta.specs.declared.block.Block.{Block}
 use Rattle.bt_meta.specs.Layout.{hash_of}
-use Rattle.bt_history.specs.declared.call.Reply.TheVariants.{Request}
+use Rattle.bt_history.specs.declared.call.Reply.TheVariants.{InFlight, Request}
 use Rattle.bt_history.specs.declared.event.Event.{Event}
 use Rattle.bt_history.specs.declared.rules.TheConstants.{MOST_LEVEL}
 use Rattle.bt_history.specs.Setting.{Setting, deepest_line, is_block}
@@ -11,7 +11,7 @@ use Rattle.bt_history.specs.History.{History}
 use Rattle.bt_history.specs.Peers.{alone, asked, asked_count, depth_so_far, due_count, expected, ListsAsked, reach}
 use Rattle.bt_history.specs.Pieces.{asker_count, availability, begun, content, full, had, held, level, open_count, sender, unasked, unbegun}
 use Rattle.bt_history.specs.Pieces.{awaited, comes_in_order, is_own, is_sole}
-use Rattle.bt_history.specs.Next.{is_strict, usable}
+use Rattle.bt_history.specs.Next.{is_strict, may_count, usable}
 use Rattle.bt_history.specs.PickRules.{IsBy, rule_of}
 use Rattle.bt_history.specs.Legal.{IsAllowed}
 
@@ -49,6 +49,8 @@ pub record Assures (s : Setting) (h : History) : Type 0 where
   pub rarest : (e : Event) (b : Block) → IsAllowed s h e → e.reply ≡ Request b → comes_in_order h b.piece ≡ false → 0 < s.most_open → is_strict s h ≡ false
       → (c : Block) → IsTrue (is_block s.torrent c) → IsTrue (usable s h e.worker c) → level h c.piece ≡ level h b.piece
       → availability s h b.piece ≤ availability s h c.piece
+  -- a request in flight counts only where its block is of use to the peer that it was sent to, which has room for it
+  pub counted : (e : Event) (b : Block) → IsAllowed s h e → e.reply ≡ InFlight b → IsTrue (may_count s h e.worker b)
   -- the line of a peer lists exactly the blocks that are asked of it
   pub listed : (q : ℕ) → ListsAsked s h q
   -- what is asked of a peer and what is to be cancelled there are no more than its greatest depth so far

@@ -5,10 +5,11 @@ use Rattle.std.specs.Prelude.{ℕ, Bool, true, false, not, ◌==◌, ◌&&◌, �
 use Rattle.std.specs.List.{filter}
 use Rattle.bt_meta.specs.declared.block.Block.{Block}
 use Rattle.bt_meta.specs.Layout.{piece_count}
-use Rattle.bt_history.specs.declared.call.Reply.TheVariants.{Choked, PipeFull, Idle, NothingLeft}
+use Rattle.bt_history.specs.declared.call.Reply.{Reply}
+use Rattle.bt_history.specs.declared.call.Reply.TheVariants.{Choked, PipeFull, Idle, NothingLeft, Request}
 use Rattle.bt_history.specs.declared.event.Action.{Action}
 use Rattle.bt_history.specs.declared.event.Action.TheVariants.{Join, Bits, Have, Choke, Unchoke, Arrived, Leave, Want, Haves, Depth, Release}
-use Rattle.bt_history.specs.declared.event.Action.TheVariants.{Level, Levels, InOrder, Reach, InOrderFrom, Lack, Late, Alone, Lose, Discard}
+use Rattle.bt_history.specs.declared.event.Action.TheVariants.{Level, Levels, InOrder, Reach, InOrderFrom, Lack, Late, Alone, Lose, Discard, Requested}
 use Rattle.bt_history.specs.declared.event.Event.{Event}
 use Rattle.bt_history.specs.Counting.{all_below, any_below, count_below}
 use Rattle.bt_history.specs.Setting.{Setting, some_block, each_block}
@@ -275,6 +276,16 @@ is_loss call = false
 unfoldable pub never_loses : History → Bool
 never_loses [] = true
 never_loses (e ∷ h) = not (is_loss e.action) && never_loses h
+
+-- the call tells of a request in flight
+abbrev pub tells_flight : Action → Bool
+tells_flight (Requested p begin) = true
+tells_flight call = false
+
+-- the block that the reply asked for before there was such a call, if it did
+abbrev pub requested_before : Reply → List Block
+requested_before (Request b) = b ∷ []
+requested_before reply = []
 
 -- the entry is a check of piece p that failed
 abbrev pub failed : Event → ℕ → Bool

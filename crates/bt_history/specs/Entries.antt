@@ -1,14 +1,15 @@
 -- Entries by their plain values, and the history that a journal tells.
 use Rattle.std.specs.Prelude.{ℕ, List, map, reverse}
 use Rattle.bt_check.specs.Checked.{joined}
+use Rattle.bt_meta.specs.declared.block.Block.{Block}
 use Rattle.bt_history.specs.declared.call.Call.{Call}
 use Rattle.bt_history.specs.declared.call.Call.TheVariants as calls
 use Rattle.bt_history.specs.declared.call.Entry.{Entry}
 use Rattle.bt_history.specs.declared.call.Reply.{Reply}
-use Rattle.bt_history.specs.declared.call.Reply.TheVariants.{Failed}
+use Rattle.bt_history.specs.declared.call.Reply.TheVariants.{Failed, InFlight}
 use Rattle.bt_history.specs.declared.event.Action.{Action}
 use Rattle.bt_history.specs.declared.event.Action.TheVariants.{Join, Bits, Have, Choke, Unchoke, Next, Arrived, Settle, Leave, Want, Haves, Depth}
-use Rattle.bt_history.specs.declared.event.Action.TheVariants.{Release, Level, Levels, InOrder, Reach, InOrderFrom, Lack, Late, Alone, Lose, Discard}
+use Rattle.bt_history.specs.declared.event.Action.TheVariants.{Release, Level, Levels, InOrder, Reach, InOrderFrom, Lack, Late, Alone, Lose, Discard, Requested}
 use Rattle.bt_history.specs.declared.event.Event.{Event}
 use Rattle.bt_history.specs.History.{History}
 
@@ -59,6 +60,10 @@ losing w p = record { worker = w; action = Lose p; reply = Failed }
 -- w tells that the block that begins there is bad
 abbrev pub discarding : ℕ → ℕ → ℕ → Event
 discarding w p begin = record { worker = w; action = Discard p begin; reply = Failed }
+
+-- w was sent a request of block b before, and it counts now
+abbrev pub counting : ℕ → Block → Event
+counting w b = record { worker = w; action = Requested b.piece b.begin; reply = InFlight b }
 
 -- what contracts see of an entry
 abbrev pub event_of : Entry → Event

@@ -1,7 +1,7 @@
 -- When a peer that had nothing to be asked for is worth another question.
 use Rattle.std.specs.Prelude.{ℕ, ◌+◌, ◌==◌, Bool, true, false, not, ◌&&◌, ◌||◌, List, [], ◌∷◌, if◌then◌else◌}
 use Rattle.bt_history.specs.declared.call.Reply.{Reply}
-use Rattle.bt_history.specs.declared.call.Reply.TheVariants.{Request, Idle, NothingLeft}
+use Rattle.bt_history.specs.declared.call.Reply.TheVariants.{Request, InFlight, Idle, NothingLeft}
 use Rattle.bt_history.specs.declared.event.Action.{Action}
 use Rattle.bt_history.specs.declared.event.Action.TheVariants.{Join, Choke, Arrived, Settle, Leave, Want, Release, Level, Levels, Lack, Late, Alone, Lose, Discard}
 use Rattle.bt_history.specs.declared.event.Event.{Event}
@@ -11,9 +11,10 @@ use Rattle.bt_history.specs.Legal.{place_at}
 use Rattle.bt_history.specs.Peers.{expected}
 use Rattle.bt_history.specs.Pieces.{asker_count, endgame, is_late_at_some}
 
--- the reply asks for a block
+-- the reply asks for a block, or counts one as asked
 abbrev pub is_request : Reply → Bool
 is_request (Request b) = true
+is_request (InFlight b) = true
 is_request reply = false
 
 -- the entry asks for the last block that nobody was asked for, so that an endgame begins

@@ -5,11 +5,12 @@ use Rattle.bt_meta.specs.Layout.{Layout}
 use Rattle.bt_history.specs.declared.call.Reason.TheVariants.{NotJoined, AlreadyJoined, LateBits, WrongCount, NoSuchPiece, NoSuchBlock, WrongLength}
 use Rattle.bt_history.specs.declared.call.Reason.TheVariants.{NotWaiting, Stale, NotAsked, WrongDepth, WrongLevel}
 use Rattle.bt_history.specs.declared.call.Reply.{Reply}
-use Rattle.bt_history.specs.declared.call.Reply.TheVariants.{Joined, Noted, Quiet, Cancel, Request, Choked, PipeFull, Idle, NothingLeft, Stored}
-use Rattle.bt_history.specs.declared.call.Reply.TheVariants.{Completed, Dropped, Had, Failed, Refused}
+use Rattle.bt_history.specs.declared.call.Reply.TheVariants.{Joined, Noted, Quiet, Cancel, Request, InFlight, Choked, PipeFull, Idle, NothingLeft}
+use Rattle.bt_history.specs.declared.call.Reply.TheVariants.{Stored, Completed, Dropped, Had, Failed, Refused}
 use Rattle.bt_history.specs.declared.event.Action.{Action}
 use Rattle.bt_history.specs.declared.event.Action.TheVariants.{Join, Bits, Have, Choke, Unchoke, Next, Arrived, Settle, Leave, Want, Haves, Depth}
 use Rattle.bt_history.specs.declared.event.Action.TheVariants.{Release, Level, Levels, InOrder, Reach, InOrderFrom, Lack, Late, Alone, Lose, Discard}
+use Rattle.bt_history.specs.declared.event.Action.TheVariants.{Requested}
 use Rattle.bt_history.specs.declared.event.Event.{Event}
 use Rattle.bt_history.specs.declared.rules.Rules.{Rules}
 use Rattle.bt_history.specs.Setting.{Setting, setting_of, usual_rules}
@@ -1843,6 +1844,84 @@ refusals_of_losses = example (setting_of torrent_short_last 1 usual_rules)
     ∷ (3, entry 0 (Lose 0) (Refused NotJoined))
     ∷ (6, entry 0 (Bits (true ∷ true ∷ true ∷ [])) (Refused LateBits)) ∷ [])
 
+-- 7: block in flight is requested again
+-- 7: piece of a block in flight has not begun
+-- 10: no cancel for a block in flight
+-- 6: another block in flight
+abbrev block_in_flight_counts : Example
+block_in_flight_counts = example (setting_of torrent_two_blocks 2 usual_rules)
+    (enters 0 (true ∷ true ∷ [])
+    (enters 1 (true ∷ true ∷ [])
+    (entry 0 (Requested 0 16384) (InFlight (block_of 0 16384 16384))
+    ∷ entry 1 (Next 0) (Request (block_of 0 0 16384))
+    ∷ entry 1 (Next 0) (Request (block_of 1 0 16384))
+    ∷ entry 1 (Arrived 0 16384 (replicate 16384 97)) Stored
+    ∷ entry 0 (Next 0) (Cancel (block_of 0 16384 16384))
+    ∷ entry 0 (Requested 1 16384) (InFlight (block_of 1 16384 16384)) ∷ [])))
+    ((7, entry 1 (Next 0) (Request (block_of 0 16384 16384)))
+    ∷ (7, entry 1 (Next 1) (Request (block_of 1 0 16384)))
+    ∷ (10, entry 0 (Next 0) (Request (block_of 1 16384 16384)))
+    ∷ (6, entry 0 (Requested 0 16384) (InFlight (block_of 0 0 16384))) ∷ [])
+
+-- 5: block in flight beyond the depth
+abbrev block_in_flight_takes_room : Example
+block_in_flight_takes_room = example (setting_of torrent_two_blocks 1 (rules 1 1))
+    (enters 0 (true ∷ true ∷ [])
+    (entry 0 (Requested 1 16384) (InFlight (block_of 1 16384 16384))
+    ∷ entry 0 (Next 0) PipeFull
+    ∷ entry 0 (Requested 1 0) (Refused NotWaiting)
+    ∷ entry 0 (Release 1 16384) Quiet
+    ∷ entry 0 (Next 1) (Request (block_of 1 0 16384)) ∷ []))
+    ((5, entry 0 (Requested 1 0) (InFlight (block_of 1 0 16384))) ∷ [])
+
+-- 0: strangers block in flight
+-- 3: no such block in flight
+-- 5: block in flight that is not shown
+-- 8: block in flight while choked
+-- 11: unwanted block in flight
+-- 14: block in flight beyond the reach
+-- 17: block in flight twice
+-- 21: block in flight at two peers
+-- 23: block in flight while a cancel is due
+-- 25: held block in flight
+abbrev refusals_of_requested : Example
+refusals_of_requested = example (setting_of torrent_two_blocks 2 usual_rules)
+    (entry 0 (Requested 0 0) (Refused NotJoined)
+    ∷ entry 0 Join Joined
+    ∷ entry 0 (Requested 2 0) (Refused NoSuchPiece)
+    ∷ entry 0 (Requested 0 1) (Refused NoSuchBlock)
+    ∷ entry 0 Unchoke Quiet
+    ∷ entry 0 (Requested 0 0) (Refused NotWaiting)
+    ∷ entry 0 (Have 0) (Noted true)
+    ∷ entry 0 Choke Quiet
+    ∷ entry 0 (Requested 0 0) (Refused NotWaiting)
+    ∷ entry 0 Unchoke Quiet
+    ∷ entry 0 (Level 0 0) Quiet
+    ∷ entry 0 (Requested 0 0) (Refused NotWaiting)
+    ∷ entry 0 (Level 0 7) Quiet
+    ∷ entry 0 (Reach 6) Quiet
+    ∷ entry 0 (Requested 0 0) (Refused NotWaiting)
+    ∷ entry 0 (Reach 7) Quiet
+    ∷ entry 0 (Requested 0 0) (InFlight (block_of 0 0 16384))
+    ∷ entry 0 (Requested 0 0) (Refused NotWaiting)
+    ∷ enters 1 (true ∷ true ∷ [])
+    (entry 1 (Requested 0 0) (Refused NotWaiting)
+    ∷ entry 1 (Arrived 0 0 (replicate 16384 97)) Stored
+    ∷ entry 0 (Requested 0 16384) (Refused NotWaiting)
+    ∷ entry 0 (Next 0) (Cancel (block_of 0 0 16384))
+    ∷ entry 0 (Requested 0 0) (Refused NotWaiting)
+    ∷ entry 0 (Requested 0 16384) (InFlight (block_of 0 16384 16384)) ∷ []))
+    ((0, entry 0 (Requested 0 0) (InFlight (block_of 0 0 16384)))
+    ∷ (3, entry 0 (Requested 0 1) (InFlight (block_of 0 0 16384)))
+    ∷ (5, entry 0 (Requested 0 0) (InFlight (block_of 0 0 16384)))
+    ∷ (8, entry 0 (Requested 0 0) (InFlight (block_of 0 0 16384)))
+    ∷ (11, entry 0 (Requested 0 0) (InFlight (block_of 0 0 16384)))
+    ∷ (14, entry 0 (Requested 0 0) (InFlight (block_of 0 0 16384)))
+    ∷ (17, entry 0 (Requested 0 0) (InFlight (block_of 0 0 16384)))
+    ∷ (21, entry 1 (Requested 0 0) (InFlight (block_of 0 0 16384)))
+    ∷ (23, entry 0 (Requested 0 16384) (InFlight (block_of 0 16384 16384)))
+    ∷ (25, entry 0 (Requested 0 0) (InFlight (block_of 0 0 16384))) ∷ [])
+
 abbrev pub first_examples : List Example
 first_examples =
     first_request
@@ -1879,12 +1958,12 @@ first_examples =
     ∷ released_in_endgame
     ∷ released_piece_is_unbegun
     ∷ released_is_asked_again
+    ∷ released_arrives_after_all
     ∷ []
 
 abbrev pub second_examples : List Example
 second_examples =
-    released_arrives_after_all
-    ∷ late_is_asked_elsewhere
+    late_is_asked_elsewhere
     ∷ late_holds_up_endgame
     ∷ late_in_spite_of_one_asker
     ∷ late_no_more
@@ -1913,13 +1992,13 @@ second_examples =
     ∷ want_after_levels
     ∷ level_before_the_bits
     ∷ endgame_of_all_levels
+    ∷ asked_outlasts_its_level
+    ∷ refusals_of_levels
     ∷ []
 
 abbrev pub third_examples : List Example
 third_examples =
-    asked_outlasts_its_level
-    ∷ refusals_of_levels
-    ∷ any_begun_piece_goes_on
+    any_begun_piece_goes_on
     ∷ rarest_while_few_are_open
     ∷ as_many_open_as_may_be
     ∷ rarest_of_the_open_goes_on
@@ -1945,14 +2024,14 @@ third_examples =
     ∷ reach_goes_with_its_peer
     ∷ refusals_of_reach_and_order
     ∷ window_comes_in_order
+    ∷ window_told_anew
+    ∷ lacked_is_asked_elsewhere
+    ∷ lack_makes_another_piece_rarest
     ∷ []
 
 abbrev pub fourth_examples : List Example
 fourth_examples =
-    window_told_anew
-    ∷ lacked_is_asked_elsewhere
-    ∷ lack_makes_another_piece_rarest
-    ∷ lack_of_the_only_piece
+    lack_of_the_only_piece
     ∷ cancel_outlasts_a_lack
     ∷ lack_begins_endgame
     ∷ refusals_of_lack
@@ -1977,6 +2056,9 @@ fourth_examples =
     ∷ discarded_block_was_the_only_one
     ∷ discarded_before_its_check
     ∷ refusals_of_losses
+    ∷ block_in_flight_counts
+    ∷ block_in_flight_takes_room
+    ∷ refusals_of_requested
     ∷ []
 
 abbrev pub examples : List Example

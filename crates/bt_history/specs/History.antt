@@ -3,7 +3,7 @@
 use Rattle.std.specs.Prelude.{ℕ, ◌==◌, Bool, true, false, ◌&&◌, List, [], ◌∷◌, Option, Some, None, if◌then◌else◌}
 use Rattle.bt_meta.specs.declared.block.Block.{Block}
 use Rattle.bt_history.specs.declared.call.Reply.{Reply}
-use Rattle.bt_history.specs.declared.call.Reply.TheVariants.{Cancel, Request, Stored, Completed, Had, Failed, Refused}
+use Rattle.bt_history.specs.declared.call.Reply.TheVariants.{Cancel, Request, InFlight, Stored, Completed, Had, Failed, Refused}
 use Rattle.bt_history.specs.declared.event.Action.{Action}
 use Rattle.bt_history.specs.declared.event.Action.TheVariants.{Arrived, Settle, Lose, Discard}
 use Rattle.bt_history.specs.declared.event.Event.{Event}
@@ -44,9 +44,10 @@ bytes_for b action = None
 abbrev pub stored : Event → Block → Option (List ℕ)
 stored e b = if stores e.reply then bytes_for b e.action else None
 
--- the block that the reply asks for, if it does
+-- the block that the reply asks for, or that it counts as asked, if it does
 abbrev pub requested_by : Reply → List Block
 requested_by (Request b) = b ∷ []
+requested_by (InFlight b) = b ∷ []
 requested_by reply = []
 
 -- the blocks that the entry asked of q: one, or none

@@ -1,26 +1,26 @@
 -- Which reply is allowed after a history, and which histories are legal.
-use Rattle.std.specs.Prelude.{ℕ, ◌+◌, ◌<◌, ◌≡◌, IsTrue, ◌==◌, nat_le, nat_lt, Bool, not, ◌&&◌, ◌||◌, List, [], ◌∷◌, Option, Some, None, length}
+use Rattle.std.specs.Prelude.{ℕ, ◌+◌, ◌/◌, ◌<◌, ◌≡◌, IsTrue, ◌==◌, nat_le, nat_lt, Bool, not, ◌&&◌, ◌||◌, List, [], ◌∷◌, Option, Some, None, length}
 use Rattle.std.specs.Prelude.{if◌then◌else◌}
 use Rattle.std.specs.List.{list_any}
 use lib.Pointwise.{pointwise}
 use Rattle.sha1.specs.Sha1.{sha1}
 use Rattle.bt_meta.specs.declared.block.Block.{Block}
-use Rattle.bt_meta.specs.Layout.{Layout, piece_count, hash_of}
+use Rattle.bt_meta.specs.Layout.{Layout, block, block_size, piece_count, hash_of}
 use Rattle.bt_history.specs.declared.call.Reason.{Reason}
 use Rattle.bt_history.specs.declared.call.Reason.TheVariants.{NotJoined, AlreadyJoined, LateBits, WrongCount, NoSuchPiece, NoSuchBlock, WrongLength}
 use Rattle.bt_history.specs.declared.call.Reason.TheVariants.{NotWaiting, Stale, NotAsked, WrongDepth, WrongLevel}
 use Rattle.bt_history.specs.declared.call.Reply.{Reply}
-use Rattle.bt_history.specs.declared.call.Reply.TheVariants.{Joined, Noted, Quiet, Cancel, Request, Stored, Completed, Dropped, Had, Failed, Refused}
+use Rattle.bt_history.specs.declared.call.Reply.TheVariants.{Joined, Noted, Quiet, Cancel, Request, InFlight, Stored, Completed, Dropped, Had, Failed, Refused}
 use Rattle.bt_history.specs.declared.event.Action.{Action}
 use Rattle.bt_history.specs.declared.event.Action.TheVariants.{Join, Bits, Have, Next, Arrived, Settle, Want, Haves, Depth, Release, Level, Levels}
-use Rattle.bt_history.specs.declared.event.Action.TheVariants.{InOrder, Reach, InOrderFrom, Lack, Late, Lose, Discard}
+use Rattle.bt_history.specs.declared.event.Action.TheVariants.{InOrder, Reach, InOrderFrom, Lack, Late, Lose, Discard, Requested}
 use Rattle.bt_history.specs.declared.rules.TheConstants.{MOST_LEVEL}
 use Rattle.bt_history.specs.declared.event.Event.{Event}
 use Rattle.bt_history.specs.Setting.{Setting, deepest_told, some_block_of, each_block_of, is_block}
 use Rattle.bt_history.specs.History.{History}
 use Rattle.bt_history.specs.Peers.{joined, late, shows, shows_after, asked}
 use Rattle.bt_history.specs.Pieces.{held, full, content, had, lacks}
-use Rattle.bt_history.specs.Next.{Answer, Exactly, CancelOf, RequestOf, next_answer}
+use Rattle.bt_history.specs.Next.{Answer, Exactly, CancelOf, RequestOf, may_count, next_answer}
 
 -- the same bytes
 abbrev pub same_bytes : List ℕ → List ℕ → Bool
@@ -76,6 +76,10 @@ no_levels levels = (list_any (λ n. nat_lt MOST_LEVEL n) levels, WrongLevel)
 abbrev pub place_at : ℕ → ℕ → Block
 place_at p begin = record { piece = p; begin = begin; len = 0 }
 
+-- the block of the torrent that begins there
+abbrev pub block_from : Layout → ℕ → ℕ → Block
+block_from t p begin = block t p (begin / block_size)
+
 -- what may speak against the call, in the order in which it is told
 abbrev pub causes : Setting → History → ℕ → Action → List (Bool × Reason)
 causes s h w Join = (joined h w, AlreadyJoined) ∷ []
@@ -100,6 +104,8 @@ causes s h w (Reach n) = no_peer h w ∷ no_level n ∷ []
 causes s h w (InOrderFrom n) = (nat_lt (MOST_LEVEL + 1) n, WrongLevel) ∷ []
 causes s h w (Lose p) = no_piece s p ∷ []
 causes s h w (Discard p begin) = no_piece s p ∷ no_block s p begin ∷ (had h p, NotWaiting) ∷ []
+causes s h w (Requested p begin) =
+    no_peer h w ∷ no_piece s p ∷ no_block s p begin ∷ (not (may_count s h w (block_from s.torrent p begin)), NotWaiting) ∷ []
 causes s h w call = no_peer h w ∷ []
 
 -- why the call is refused, if it is
@@ -136,6 +142,7 @@ answer s h w (Arrived p begin bytes) = arrived_answer s h p begin
 answer s h w (Settle p bytes) = settled_answer s h p
 answer s h w (Lose p) = Exactly Failed
 answer s h w (Discard p begin) = Exactly Failed
+answer s h w (Requested p begin) = Exactly (InFlight (block_from s.torrent p begin))
 answer s h w call = Exactly Quiet
 
 -- a refusal for this reason, if there is one, else the answer

@@ -15,4 +15,5 @@ pub mod Logs
 pub mod Examples
 pub mod Before
 pub mod Losses
+pub mod Flights
 pub mod Epochs

@@ -1,14 +1,14 @@
 -- What a worker's log says of a history, and which replies fit which call.
 use Rattle.std.specs.Prelude.{ℕ, ◌≡◌, ◌==◌, Bool, true, false, List, [], ◌∷◌, ◌++◌, length, if◌then◌else◌}
 use Rattle.bt_history.specs.declared.call.Reply.{Reply}
-use Rattle.bt_history.specs.declared.call.Reply.TheVariants.{Joined, Noted, Quiet, Cancel, Request, Choked, PipeFull, Idle, NothingLeft, Stored}
+use Rattle.bt_history.specs.declared.call.Reply.TheVariants.{Joined, Noted, Quiet, Cancel, Request, InFlight, Choked, PipeFull, Idle, NothingLeft, Stored}
 use Rattle.bt_history.specs.declared.call.Reply.TheVariants.{Completed, Dropped, Had, Failed, Refused}
 use Rattle.bt_history.specs.declared.event.Action.{Action}
 use Rattle.bt_history.specs.declared.event.Action.TheVariants as actions
 use Rattle.bt_history.specs.declared.event.Event.{Event}
 use Rattle.bt_history.specs.declared.mark.CallMark.{CallMark}
 use Rattle.bt_history.specs.declared.mark.CallMark.TheVariants.{Join, Bits, Have, Choke, Unchoke, Next, Arrived, Settle, Leave, Want, Haves, Depth}
-use Rattle.bt_history.specs.declared.mark.CallMark.TheVariants.{Release, Level, Levels, InOrder, Reach, InOrderFrom, Lack, Late, Alone}
+use Rattle.bt_history.specs.declared.mark.CallMark.TheVariants.{Release, Level, Levels, InOrder, Reach, InOrderFrom, Lack, Late, Alone, Requested}
 use Rattle.bt_history.specs.declared.mark.Mark.{Mark}
 use Rattle.bt_history.specs.History.{History}
 
@@ -37,6 +37,7 @@ call_mark (actions.Late p begin) = Late p begin
 call_mark (actions.Alone alone) = Alone alone
 call_mark (actions.Lose p) = Settle p
 call_mark (actions.Discard p begin) = Settle p
+call_mark (actions.Requested p begin) = Requested p begin
 
 -- the mark of an entry that so many entries are older than
 abbrev pub mark_of : ℕ → Event → Mark
@@ -89,6 +90,7 @@ answers (InOrderFrom n) Quiet = true
 answers (Lack p) (Noted shown) = true
 answers (Late p begin) Quiet = true
 answers (Alone alone) Quiet = true
+answers (Requested p begin) (InFlight b) = true
 answers (Next word) reply = answers_next reply
 answers (Arrived p begin len) reply = answers_arrived reply
 answers (Settle p) Had = true

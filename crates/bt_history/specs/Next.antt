@@ -78,6 +78,11 @@ doubles s h q b =
 abbrev pub rushes : Setting → History → ℕ → Bool
 rushes s h q = nat_lt (asked_count s h q) s.rush
 
+-- a request of block b that was sent to q already may count: q is owed no cancel, lets itself be asked and has room, and the block is of use
+abbrev pub may_count : Setting → History → ℕ → Block → Bool
+may_count s h q b =
+    not (some_block s.torrent (due h q)) && (is_open h q && (not (nat_le (depth_of s h q) (asked_count s h q)) && usable s h q b))
+
 -- the answer to Next of q: the first case that applies
 unfoldable pub next_answer : Setting → History → ℕ → Answer
 next_answer s h q =

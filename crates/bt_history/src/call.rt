@@ -96,7 +96,7 @@ pub enum Reason {
     /// No block begins there.
     NoSuchBlock,
     WrongLength,
-    /// The piece isn't full, or was had already.
+    /// The piece isn't full, or was had already; or the block doesn't wait to be requested of the peer.
     NotWaiting,
     /// The bytes that were hashed are no longer those held.
     Stale,
@@ -119,6 +119,8 @@ pub enum Reply {
     Cancel(Block),
     /// To be sent as `request`.
     Request(Block),
+    /// The request is in flight already, and counts from now on. Only a picker or a keeper answers so, to `Requested`.
+    InFlight(Block),
     /// Nothing to ask: the peer chokes us.
     Choked,
     /// Nothing to ask: as many blocks as may be are asked of the peer.
@@ -225,7 +227,7 @@ impl Reply {
     pub fn is_request(self) -> bool
         ensures { result ≡ is_request self }
     {
-        matches!(self, Reply::Request(_))
+        matches!(self, Reply::Request(_) | Reply::InFlight(_))
     }
 
     /// Whether the block that arrived was stored.

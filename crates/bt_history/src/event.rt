@@ -3,8 +3,8 @@
 use crate::call::Reply;
 use std::collections::LinkedList;
 
-/// A call by its plain values. A verdict is its piece with the joined bytes that were hashed. `Lose` and `Discard` are told to a picker or a
-/// keeper alone: no [`Call`](crate::Call) is one of them, so no journal has them.
+/// A call by its plain values. A verdict is its piece with the joined bytes that were hashed. `Lose`, `Discard` and `Requested` are
+/// told to a picker or a keeper alone: no [`Call`](crate::Call) is one of them, so no journal has them.
 pub enum Action {
     Join,
     Bits(LinkedList<bool>),
@@ -45,6 +45,10 @@ pub enum Action {
     Alone(bool),
     Lose(u32),
     Discard {
+        piece: u32,
+        begin: u32,
+    },
+    Requested {
         piece: u32,
         begin: u32,
     },

@@ -8,15 +8,16 @@ ghost use Rattle.bt_meta.specs.Layout.{hash_of};
 ghost use Rattle.bt_history.specs.declared.call.Reply.{Reply};
 ghost use Rattle.bt_history.specs.declared.rules.TheConstants.{MOST_LEVEL};
 ghost use Rattle.bt_history.specs.Setting.{deepest_line, is_block, setting_of};
-ghost use Rattle.bt_history.specs.Entries.{delaying, discarding, event_of, giving_up, history_of, lacking, losing};
+ghost use Rattle.bt_history.specs.Entries.{action_of, counting, delaying, discarding, event_of, giving_up, history_of, lacking, losing};
 ghost use Rattle.bt_history.specs.Losses.{LeavesPeers};
-ghost use Rattle.bt_history.specs.Before.{had_before, kept_before, never_loses, sender_before};
+ghost use Rattle.bt_history.specs.Flights.{CountsOne};
+ghost use Rattle.bt_history.specs.Before.{had_before, kept_before, never_loses, requested_before, sender_before, tells_flight};
 ghost use Rattle.bt_history.specs.Before.{asked_before, chosen_before, doubles_before, late_before, next_before, outstanding_before, shows_before};
 ghost use Rattle.bt_history.specs.Before.{never_adds, never_deepens, never_levels, never_releases, next_strict, next_unrushed, endgame_of_all};
 ghost use Rattle.bt_history.specs.Before.{doubles_unreached, in_order_before, never_reaches, never_windows, next_unwindowed, usable_unreached};
 ghost use Rattle.bt_history.specs.Before.{any_asker_count, asked_alone_undelayed, asked_of_any, is_candidate_undelayed, never_delays};
 ghost use Rattle.bt_history.specs.Before.{never_alone, resumes_undelayed, resumes_unowned, usable_undelayed, usable_unowned};
-ghost use Rattle.bt_history.specs.History.{same_begin};
+ghost use Rattle.bt_history.specs.History.{requested_by, same_begin};
 ghost use Rattle.bt_history.specs.Epochs.{asked_alone, epoch, is_idle, pass_by};
 ghost use Rattle.bt_history.specs.Next.{Exactly, doubles, is_candidate, is_strict, next_answer, resumes, usable};
 ghost use Rattle.bt_history.specs.Peers.{asked, asked_count, depth_of, depth_so_far, due, due_count, late, ListsAsked, outstanding, shows};
@@ -29,7 +30,7 @@ ghost use Rattle.bt_history.specs.PickRules.{IsBy, rule_of};
 ghost use Rattle.bt_history.specs.Plain.{IsLegalBefore};
 ghost use Rattle.bt_history.specs.Assured.{Assures};
 
-use crate::call::{Entry, Reply};
+use crate::call::{Call, Entry, Reply};
 use crate::event::Event;
 use crate::rules::Rules;
 use bt_meta::{Block, Torrent};
@@ -291,6 +292,30 @@ pub fn discard_frees_one(
     ensures sender { sender (discarding worker piece begin ∷ older.now) block
         ≡ (if same_begin (place_at piece begin) block then None else sender older.now block) }
     ensures peers { LeavesPeers (discarding worker piece begin) older.now other block }
+{}
+
+/// A request in flight that counts is one more block asked of its peer, the last of the peer's line. All else is as it was: what is late and to
+/// be cancelled, what is held and complete, and all that was told of peers, levels and the order.
+pub fn in_flight_asks_one(older: &[Event], worker: u32, requested: Block, other: u32, block: Block)
+    ensures { CountsOne (counting worker requested) requested older.now other block }
+{}
+
+/// Where the newest call tells of no request in flight, its reply asks for what it asked for before there was such a call: a request alone does.
+pub fn unrequested_is_as_before(
+    torrent: &Torrent,
+    workers: u32,
+    rules: Rules,
+    older: &[Event],
+    newest: &Event,
+)
+    requires legal { IsLegal (setting_of torrent.now.layout workers rules) (newest.now ∷ older.now) }
+    requires untold { tells_flight newest.now.action ≡ false }
+    ensures { requested_by newest.now.reply ≡ requested_before newest.now.reply }
+{}
+
+/// No call of a journal tells of one.
+pub fn journals_tell_no_flight(call: &Call)
+    ensures { tells_flight (action_of call.now) ≡ false }
 {}
 
 /// Where no piece was lost and no block discarded, what is had and held, and who sent it, is what it was before there were such calls.

@@ -26,6 +26,7 @@ pub enum CallMark {
     Lack(u32),
     Late { piece: u32, begin: u32 },
     Alone(bool),
+    Requested { piece: u32, begin: u32 },
 }
 
 /// What a worker's log keeps of an entry: its place in the journal (the number of older entries), its call and its reply.

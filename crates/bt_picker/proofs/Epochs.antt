@@ -4,7 +4,7 @@ use Rattle.std.specs.Prelude.{if◌then◌else◌}
 use Rattle.std.proofs.Math.Nat.{mod-add-mod}
 use Rattle.bt_history.specs.declared.call.Reply.{Reply}
 use Rattle.bt_history.specs.declared.call.Reason.{Reason}
-use Rattle.bt_history.specs.declared.call.Reply.TheVariants.{Completed, Dropped, Request, Stored}
+use Rattle.bt_history.specs.declared.call.Reply.TheVariants.{Completed, Dropped, InFlight, Request, Stored}
 use Rattle.bt_history.specs.declared.event.Event.{Event}
 use Rattle.bt_history.specs.Epochs.{asked_alone, begins_endgame, epoch, is_request, stirs, stores_beyond, unsettles}
 use Rattle.bt_meta.specs.declared.block.Block.{Block}
@@ -38,6 +38,7 @@ stirs_parts s h e = by_cases (counts e.reply) (is_request e.reply) (unsettles e.
     (counted e.reply) where
       counted : (r : Reply) → is_request r ≡ true → counts r ≡ true
       counted (Request b) is = refl
+      counted (InFlight b) is = refl
       counted r is = absurd (cc is)
 
       by_cases : (c r u b g : Bool) → (r ≡ true → c ≡ true) → ((c && (u || b)) || (r && g)) ≡ (c && (u || ((r && g) || b)))

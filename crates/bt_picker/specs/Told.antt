@@ -13,7 +13,7 @@ use Rattle.bt_picker.specs.declared.told.Lent.{Lent}
 use Rattle.bt_picker.specs.declared.told.Lent.TheVariants as lent
 use Rattle.bt_picker.specs.declared.told.Told.{Told}
 use Rattle.bt_picker.specs.declared.told.Told.TheVariants.{Join, Bits, Have, Choke, Unchoke, Next, Arrived, Leave, Want, Haves, Depth, Release}
-use Rattle.bt_picker.specs.declared.told.Told.TheVariants.{Level, Levels, InOrder, Reach, InOrderFrom, Lack, Late, Alone, Lose, Discard}
+use Rattle.bt_picker.specs.declared.told.Told.TheVariants.{Level, Levels, InOrder, Reach, InOrderFrom, Lack, Late, Alone, Lose, Discard, Requested}
 
 -- what is told, as a call
 abbrev pub action_told : Told → Action
@@ -39,6 +39,7 @@ action_told (Late piece begin) = actions.Late piece begin
 action_told (Alone alone) = actions.Alone alone
 action_told (Lose piece) = actions.Lose piece
 action_told (Discard piece begin) = actions.Discard piece begin
+action_told (Requested piece begin) = actions.Requested piece begin
 
 -- a call that is lent
 abbrev pub action_lent : Lent → Action

@@ -475,8 +475,17 @@ impl<'a> Position<'a> {
         self.dues(worker).first().copied()
     }
 
+    /// Whether a cancel is due at the worker's peer.
+    #[tactic(auto, using(crate::proofs::Choices::some_due))]
+    pub(crate) fn is_owed_cancel(&self, worker: u32) -> bool
+        requires { worker < self.now.setting.workers }
+        ensures { result ≡ some_block self.now.setting.torrent (due self.now.history worker) }
+    {
+        self.first_due(worker).is_some()
+    }
+
     /// Whether as many blocks are asked of the peer as may be.
-    fn is_pipe_full(&self, worker: u32) -> bool
+    pub(crate) fn is_pipe_full(&self, worker: u32) -> bool
         requires { worker < self.now.setting.workers }
         ensures { result ≡ nat_le (depth_of self.now.setting self.now.history worker) (asked_count self.now.setting self.now.history worker) }
     {

@@ -88,6 +88,7 @@ fn put(tables: &mut Tables, past: &Past, worker: u32, told: &Told<'_>, reply: Re
         Told::Alone(alone) => tables.put_alone(worker, *alone),
         Told::Lose(piece) => tables.put_loss(*piece),
         Told::Discard { piece, begin } => tables.put_discard(*piece, *begin),
+        Told::Requested { .. } => tables.put_next(worker, reply),
     }
 }
 

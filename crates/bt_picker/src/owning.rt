@@ -35,8 +35,12 @@ impl<'a> Position<'a> {
         ensures { result ≡ all_below self.now.setting.workers
             (λ q. not (expected self.now.history q (block self.now.setting.torrent piece index)) || (q == worker)) }
     {
-        let block = self.block(piece, index);
-        self.asker_count(piece, index) <= u32::from(self.expects(worker, &block))
+        let askers = self.asker_count(piece, index);
+        if askers == 1 {
+            self.expects_newly(worker, piece, index)
+        } else {
+            askers == 0
+        }
     }
 
     /// Whether nobody but the worker's peer has to do with the block: that peer brought it, or no other is expected to.

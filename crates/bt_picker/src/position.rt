@@ -346,6 +346,17 @@ impl<'a> Position<'a> {
         self.peer(worker).expects(block.piece, block.begin)
     }
 
+    /// The same of a block that the peer may have been asked for a moment ago.
+    pub fn expects_newly(&self, worker: u32, piece: u32, index: u32) -> bool
+        requires worker { worker < self.now.setting.workers }
+        requires piece { piece < piece_count self.now.setting.torrent }
+        requires index { index < block_count self.now.setting.torrent piece }
+        ensures { result ≡ expected self.now.history worker (block self.now.setting.torrent piece index) }
+    {
+        let block = self.block(piece, index);
+        self.peer(worker).expects_newly(block.piece, block.begin)
+    }
+
     /// Whether the worker's peer is late with the block.
     pub fn is_overdue(&self, worker: u32, piece: u32, index: u32) -> bool
         requires worker { worker < self.now.setting.workers }

@@ -74,6 +74,13 @@ pub enum Told<'a> {
         piece: u32,
         begin: u32,
     },
+    /// The block that begins so many bytes into the piece was requested of the peer before, and is in flight. From now on it counts as if the
+    /// picker had asked for it: for the depth, for the other peers, and for what comes due. A picker or a keeper is told this, after a start
+    /// with connections that are there already, or of what another part of the client has asked for.
+    Requested {
+        piece: u32,
+        begin: u32,
+    },
 }
 
 impl<'a> Told<'a> {

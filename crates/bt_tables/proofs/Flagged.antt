@@ -3,8 +3,9 @@ use Rattle.std.proofs.Common.{◌≡◌, ℕ, zero, suc, ◌==◌, ◌+◌, ◌<
 use Rattle.std.proofs.Common.{refl, ap, sym, ◌∙◌, arith, ⊎_elim}
 use Rattle.std.specs.Prelude.{if◌then◌else◌, nat_lt}
 use Rattle.std.specs.List.{count_by, filter, list_any, remove}
-use Rattle.std.proofs.lemmas.Bool.{and_parts, cases_eq, eqb-true, false_from_ne_true, false≢true, lt-ltb, or_from, or_left, or_parts}
+use Rattle.std.proofs.lemmas.Bool.{and_parts, cases_Bool, cases_eq, eqb-true, false_from_ne_true, false≢true, lt-ltb, or_from, or_left, or_parts}
 use Rattle.std.proofs.lemmas.List.{get_or-set_other, get_or-set_same, length-set}
+use Rattle.std.proofs.lemmas.List.Folds.{list_any_at}
 use Rattle.std.proofs.lemmas.List.Sums.{sum_by-cons}
 use Rattle.bt_meta.specs.declared.block.Block.{Block}
 use Rattle.bt_history.specs.History.{same_begin}
@@ -228,6 +229,19 @@ flag_at_place piece begin (b ∷ bs) (f ∷ flags) (suc i) d e are each lt none 
         → list_any (begins piece begin) (if y then b ∷ flagged bs flags else flagged bs flags) ≡ list_any (begins piece begin) (flagged bs flags)
     by_flag true apart = ap (λ (z : Bool). z || list_any (begins piece begin) (flagged bs flags)) apart
     by_flag false apart = refl
+
+-- no block before the one that begins at a place begins there too
+pub none_before : (piece begin : ℕ) (bs : List Block) (i : ℕ) (d : Block) → AreApart bs → i < length bs → begins piece begin (get_or bs i d) ≡ true
+    → list_any (begins piece begin) (take i bs) ≡ false
+unfolding AreApart
+none_before piece begin [] i d are lt here = absurd (omega (arith, lt))
+none_before piece begin (b ∷ bs) zero d are lt here = refl
+none_before piece begin (b ∷ bs) (suc i) d are lt here = ⊎_elim
+    (λ (first : begins piece begin b ≡ true). absurd (false≢true
+    (sym (no_other piece begin b bs first are.0) ∙ list_any_at (begins piece begin) bs i d (omega (arith, lt)) here)))
+    (λ (other : begins piece begin b ≡ false).
+    or_from (begins piece begin b) _ other (none_before piece begin bs i d are.1 (omega (arith, lt)) here))
+    (cases_Bool (begins piece begin b))
 
 -- the flagged blocks once the flag of a place is set
 pub flagged_set : (bs : List Block) (flags : List Bool) (i : ℕ) (d : Block) → AreApart bs → length flags ≡ length bs → i < length bs

@@ -5,7 +5,7 @@ use Rattle.std.specs.List.{filter, list_any}
 use Rattle.bt_meta.specs.declared.block.Block.{Block}
 use Rattle.bt_meta.specs.Layout.{block_size}
 use Rattle.bt_history.specs.declared.call.Reply.{Reply}
-use Rattle.bt_history.specs.declared.call.Reply.TheVariants.{Request, Cancel}
+use Rattle.bt_history.specs.declared.call.Reply.TheVariants.{Request, InFlight, Cancel}
 use Rattle.bt_history.specs.Counting.{count_below, table}
 use Rattle.bt_history.specs.Setting.{Setting}
 use Rattle.bt_history.specs.History.{stores, is_had, same_begin}
@@ -375,9 +375,14 @@ with_block t w piece index = record t {
   pieces = edit t.pieces piece (stored_row w index);
 }
 
--- what Next's reply makes of the tables
+-- the block is asked of the peer
+abbrev pub with_request : TablesState → ℕ → Block → TablesState
+with_request t w b = record t { peers = edit t.peers w (request_row b); pieces = raised b t.pieces }
+
+-- what the reply makes of the tables, of Next or of a request in flight
 abbrev pub after_next : TablesState → ℕ → Reply → TablesState
-after_next t w (Request b) = record t { peers = edit t.peers w (request_row b); pieces = raised b t.pieces }
+after_next t w (Request b) = with_request t w b
+after_next t w (InFlight b) = with_request t w b
 after_next t w (Cancel b) = with_peer t w (cancel_row b)
 after_next t w reply = t
 

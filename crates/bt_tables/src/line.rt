@@ -97,6 +97,17 @@ impl Line {
         }
     }
 
+    /// The same, where mostly it is one of the newest requests.
+    pub fn expects_newly(&self, piece: u32, begin: u32) -> bool
+        ensures { result ≡ (list_any (λ b. (piece == b.piece) && (begin == b.begin)) self.now.asked
+            && not (list_any (λ b. (piece == b.piece) && (begin == b.begin)) self.now.overdue)) }
+    {
+        match place_from_end(self.blocks.as_slice(), piece, begin) {
+            Some(index) => !self.flags[index],
+            None => false,
+        }
+    }
+
     /// Whether the peer is late with the block at this place of the line.
     pub fn is_late_at(&self, index: usize) -> bool
         requires { index < length self.now.asked }
@@ -282,4 +293,19 @@ fn place_of_oldest(line: &[Block], piece: u32, begin: u32) -> Option<usize>
         Some(oldest) if piece == oldest.piece && begin == oldest.begin => Some(0),
         _ => place_in(line, piece, begin),
     }
+}
+
+/// Where in the line a block stands that begins there, looked for from the newest request on.
+fn place_from_end(line: &[Block], piece: u32, begin: u32) -> Option<usize>
+    ensures some { IfSome result (λ i. (i < length line.now)
+        × ((d : Block) → ((piece == (slice_index_or line.now i d).piece) && (begin == (slice_index_or line.now i d).begin)) ≡ true)) }
+    ensures none { IfNone result (list_any (λ b. (piece == b.piece) && (begin == b.begin)) line.now ≡ false) }
+{
+    for index in (0..line.len()).rev() {
+        let block = &line[index];
+        if piece == block.piece && begin == block.begin {
+            return Some(index);
+        }
+    }
+    None
 }

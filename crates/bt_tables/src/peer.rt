@@ -187,6 +187,14 @@ impl Peer {
         self.asked.expects(piece, begin)
     }
 
+    /// The same, where mostly it is one of the newest requests.
+    pub fn expects_newly(&self, piece: u32, begin: u32) -> bool
+        ensures { result ≡ (list_any (λ b. (piece == b.piece) && (begin == b.begin)) self.now.asked
+            && not (list_any (λ b. (piece == b.piece) && (begin == b.begin)) self.now.overdue)) }
+    {
+        self.asked.expects_newly(piece, begin)
+    }
+
     /// Whether the peer is late with the block that begins there.
     pub fn is_late_with(&self, piece: u32, begin: u32) -> bool
         ensures { result ≡ list_any (λ b. (piece == b.piece) && (begin == b.begin)) self.now.overdue }

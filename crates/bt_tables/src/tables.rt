@@ -1,6 +1,6 @@
 //! All rows, and what each call makes of them.
 
-ghost use Rattle.std.specs.Prelude.{◌≡◌, ◌<◌, ◌≤◌, ◌+◌, ◌^◌, ◌*◌, ◌/◌, [], ℕ, List, false, length, map, slice_index_or, true, IfOk, IfSome, Some, IsTrue};
+ghost use Rattle.std.specs.Prelude.{◌≡◌, ◌<◌, ◌≤◌, ◌+◌, ◌^◌, ◌*◌, ◌/◌, [], ◌∷◌, ℕ, List, false, length, map, slice_index_or, true, IfOk, IfSome, Some, IsTrue};
 ghost use Rattle.std.specs.Prelude.{EachIndex, unwrap_or};
 ghost use Rattle.bt_meta.specs.Layout.{IsLayout, block_count, piece_count, block_size};
 ghost use Rattle.std.specs.Option.{option_copied};
@@ -11,14 +11,14 @@ ghost use Rattle.bt_tables.specs.declared.peer.Dealing.TheVariants.{Heard};
 ghost use Rattle.bt_tables.specs.Showing.{dealings};
 ghost use Rattle.bt_tables.specs.Standings.{ListsOpen, TellsRest, apart, group_number, group_of_row, standing_of};
 ghost use Rattle.bt_history.specs.Setting.{deepest_line, setting_of};
-ghost use Rattle.bt_history.specs.History.{stores};
+ghost use Rattle.bt_history.specs.History.{requested_by, stores};
 ghost use Rattle.bt_meta.specs.declared.block.Block.{Block};
 ghost use Rattle.bt_history.specs.Counting.{any_below, table};
 ghost use Rattle.bt_tables.specs.Floors.{AsksRarest, FewOpen, IsFloor, NoneFresh, RequestTells, TellsFloor, is_fresh};
 ghost use Rattle.bt_tables.specs.Tables.{AreAskers, AreCounted, HasBlock, HasRoomFor, HasShortLines, bits_row, leave_row, TablesState, after_arrival};
 ghost use Rattle.bt_tables.specs.Tables.{after_check, after_next, announced, given_up, edit, fresh_peer, fresh_piece, join_row};
 ghost use Rattle.bt_tables.specs.Tables.{alone_row, choke_row, delayed, is_late_at, unexpected, lacked, noted_row, joint, levelled, ordered, peer_row, piece_row, released, relevelled, reshown};
-ghost use Rattle.bt_tables.specs.Tables.{HasRoomOf, changed_row, discarded, lost, wanted_level, with_block, with_peer};
+ghost use Rattle.bt_tables.specs.Tables.{HasRoomOf, changed_row, discarded, lost, wanted_level, with_block, with_peer, with_request};
 ghost use Rattle.bt_history.specs.declared.rules.TheConstants.{MOST_LEVEL};
 ghost use Rattle.std.specs.Prelude.{nat_le};
 
@@ -497,15 +497,15 @@ impl Tables {
         self.peers.leave(worker);
     }
 
-    /// Next, by its reply.
+    /// Next, or a request in flight that counts, by its reply.
     #[inline(always)]
     pub fn put_next(&mut self, worker: u32, reply: Reply)
         requires worker { worker < length self.old.peers }
-        requires request { (b : Block) → reply ≡ Reply.Request b → HasRoomFor self.old worker b }
+        requires request { (b : Block) → requested_by reply ≡ b ∷ [] → HasRoomFor self.old worker b }
         ensures { self.new ≡ after_next self.old worker reply }
     {
         match reply {
-            Reply::Request(block) => self.ask(worker, block),
+            Reply::Request(block) | Reply::InFlight(block) => self.ask(worker, block),
             Reply::Cancel(block) => self.note(worker, Dealing::Cancelled(block)),
             _ => {}
         }
@@ -516,7 +516,7 @@ impl Tables {
     fn ask(&mut self, worker: u32, block: Block)
         requires worker { worker < length self.old.peers }
         requires room { HasRoomFor self.old worker block }
-        ensures { self.new ≡ after_next self.old worker (Reply.Request block) }
+        ensures { self.new ≡ with_request self.old worker block }
     {
         self.peers.ask(worker, block);
         self.pieces

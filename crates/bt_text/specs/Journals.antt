@@ -5,7 +5,7 @@ use Rattle.hex.specs.Hex.{encode_lower}
 use Rattle.bt_meta.specs.WireBits.{IsSpelled}
 use Rattle.bt_history.specs.declared.event.Action.{Action}
 use Rattle.bt_history.specs.declared.event.Action.TheVariants.{Join, Bits, Have, Choke, Unchoke, Next, Arrived, Settle, Leave, Want, Haves, Depth}
-use Rattle.bt_history.specs.declared.event.Action.TheVariants.{Release, Level, Levels, InOrder, Reach, InOrderFrom, Lack, Late, Alone, Lose, Discard}
+use Rattle.bt_history.specs.declared.event.Action.TheVariants.{Release, Level, Levels, InOrder, Reach, InOrderFrom, Lack, Late, Alone, Lose, Discard, Requested}
 use Rattle.bt_history.specs.declared.event.Event.{Event}
 use Rattle.bt_text.specs.Texts.{reply_text}
 
@@ -56,6 +56,7 @@ IsCallText (Alone true) text = text ≡ codes "alone yes"
 IsCallText (Alone false) text = text ≡ codes "alone no"
 IsCallText (Lose p) text = ⊥
 IsCallText (Discard p begin) text = ⊥
+IsCallText (Requested p begin) text = ⊥
 
 -- the line of an entry: the worker, the call and the reply
 pub record IsJournalLine (e : Event) (text : List ℕ) : Type 0 where

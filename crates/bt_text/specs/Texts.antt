@@ -9,7 +9,7 @@ use Rattle.bt_text.specs.declared.text.Tail.TheVariants.{Nothing, Block, Number}
 use Rattle.bt_history.specs.declared.call.Reason.{Reason}
 use Rattle.bt_history.specs.Legal.{reason_number}
 use Rattle.bt_history.specs.declared.call.Reply.{Reply}
-use Rattle.bt_history.specs.declared.call.Reply.TheVariants.{Joined, Noted, Quiet, Cancel, Request, Choked, PipeFull, Idle, NothingLeft, Stored}
+use Rattle.bt_history.specs.declared.call.Reply.TheVariants.{Joined, Noted, Quiet, Cancel, Request, InFlight, Choked, PipeFull, Idle, NothingLeft, Stored}
 use Rattle.bt_history.specs.declared.call.Reply.TheVariants.{Completed, Dropped, Had, Failed, Refused}
 
 -- a byte as two hexadecimal digits in lower case
@@ -40,6 +40,7 @@ reply_text (Noted false) = codes "noted no"
 reply_text Quiet = codes "quiet"
 reply_text (Cancel b) = codes "cancel " ++ block_text b
 reply_text (Request b) = codes "request " ++ block_text b
+reply_text (InFlight b) = codes "inflight " ++ block_text b
 reply_text Choked = codes "choked"
 reply_text PipeFull = codes "pipefull"
 reply_text Idle = codes "idle"

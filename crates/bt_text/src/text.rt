@@ -108,6 +108,10 @@ impl ReplyText {
                 word: "request",
                 tail: Tail::Block(block),
             },
+            Reply::InFlight(block) => ReplyText {
+                word: "inflight",
+                tail: Tail::Block(block),
+            },
             Reply::Choked => ReplyText::bare("choked"),
             Reply::PipeFull => ReplyText::bare("pipefull"),
             Reply::Idle => ReplyText::bare("idle"),

@@ -41,9 +41,9 @@ extern "C" {
 /** Compare it with piecepick_abi() before the first other call. It rises with each change that an older caller can't bear. */
 #define PIECEPICK_ABI 1u
 /** The version as a text. Its first number is that of the interface. */
-#define PIECEPICK_VERSION "1.1.0"
+#define PIECEPICK_VERSION "1.2.0"
 /** The version as a number: compare it with piecepick_version(). */
-#define PIECEPICK_VERSION_NUMBER 10100u
+#define PIECEPICK_VERSION_NUMBER 10200u
 
 #if defined(__GNUC__) || defined(__clang__)
 /** A status that isn't looked at is a warning. */
@@ -107,16 +107,19 @@ typedef enum piecepick_kind {
     PIECEPICK_K_DROPPED = 12,    /**< the block was held already: it came twice, and these bytes are written nowhere */
     PIECEPICK_K_COMPLETE = 13,   /**< the piece has its hash */
     PIECEPICK_K_FAILED = 14,     /**< the piece has another hash, or you said that bytes are gone or bad: its blocks, or that one, are held no more */
-    PIECEPICK_K_REFUSED = 15     /**< by a rule, which `reason` names: mostly the peer's fault, not the caller's */
+    PIECEPICK_K_REFUSED = 15,    /**< by a rule, which `reason` names: mostly the peer's fault, not the caller's */
+    PIECEPICK_K_IN_FLIGHT = 16   /**< the request that you sent already counts from now on: nothing is to be sent */
 } piecepick_kind;
 
-/** Why a call was refused. 4, 5, 8 and 9 come as a status instead, but for 4 at piecepick_set_levels and 8 at piecepick_discard. */
+/** Why a call was refused. 4, 5, 8 and 9 come as a status instead, but for 4 at piecepick_set_levels, and 8 at piecepick_discard and
+   piecepick_requested. */
 typedef enum piecepick_reason {
     PIECEPICK_R_NONE = 0,
     PIECEPICK_R_NOT_JOINED = 1, PIECEPICK_R_ALREADY_JOINED = 2,
     PIECEPICK_R_LATE_BITS = 3,     /**< a bitfield must be a peer's first message: report it by piecepick_haves */
     PIECEPICK_R_WRONG_COUNT = 4, PIECEPICK_R_NO_SUCH_PIECE = 5, PIECEPICK_R_NO_SUCH_BLOCK = 6, PIECEPICK_R_WRONG_LENGTH = 7,
-    PIECEPICK_R_NOT_WAITING = 8, PIECEPICK_R_STALE = 9,
+    PIECEPICK_R_NOT_WAITING = 8,   /**< the piece is complete, or the block can't be requested from this peer now */
+    PIECEPICK_R_STALE = 9,
     PIECEPICK_R_NOT_REQUESTED = 10,/**< the block isn't requested from this peer */
     PIECEPICK_R_WRONG_DEPTH = 11,  /**< a depth of 0, or beyond `deepest` */
     PIECEPICK_R_WRONG_LEVEL = 12   /**< a level or a reach above 7, or an order from a level above 8 */
@@ -132,8 +135,8 @@ typedef enum piecepick_pick_rule {
     PIECEPICK_RULE_LATE = 6      /**< its request to another peer is late: piecepick_late */
 } piecepick_pick_rule;
 
-/** CANCEL and REQUEST alone have a block, and REFUSED alone has a reason. `interesting` is 1 at NOTED where the peer has a wanted piece that isn't
-   complete. All else is 0. */
+/** CANCEL, REQUEST and IN_FLIGHT alone have a block, and REFUSED alone has a reason. `interesting` is 1 at NOTED where the peer has a wanted piece
+   that isn't complete. All else is 0. */
 typedef struct piecepick_answer {
     piecepick_kind kind;     /**< what it is */
     uint32_t piece;          /**< of the block: its piece */
@@ -226,6 +229,17 @@ PIECEPICK_MUST piecepick_status piecepick_release(piecepick_picker *picker, uint
    them. The mark ends with the request: when the block comes from anybody, or at a choke, a leave, a release or a lack. Reported twice it is as
    once. QUIET, or REFUSED by NOT_JOINED or NOT_REQUESTED. */
 PIECEPICK_MUST piecepick_status piecepick_late(piecepick_picker *picker, uint32_t worker, uint32_t piece, uint32_t begin, piecepick_answer *answer);
+/** The block that begins `begin` bytes into the piece was requested from the peer already, and not by the picker. The connection is older than
+   the picker, as after a magnet link, or a part of the client chose by itself. From now on the request counts as one of the picker's own, for the
+   depth, for other peers and for endgame. It is the last one of piecepick_outstanding_at. When another peer brings the block, a cancel is due at
+   this one as ever. The epoch rises only where endgame begins by it. IN_FLIGHT, or REFUSED by NOT_JOINED, NO_SUCH_BLOCK or NOT_WAITING. A refusal
+   changes nothing, and the request may stay in flight. Its block is stored when it comes, and may be requested from another peer before.
+   NOT_WAITING says that the block can't be requested from this peer now, for one of these causes. A cancel is due at the peer: piecepick_next
+   gives it, and then this call may be made again. The peer chokes us. As many blocks as may be are in flight there: raise piecepick_depth first.
+   The block is held. It is in flight at a peer that isn't late with it, perhaps at this one. This peer is late with it. The piece isn't wanted,
+   isn't shown by the peer, or is above its reach. Another peer works alone and has the piece to itself; or this one works alone, and somebody
+   else has to do with the piece. No memory is taken. KEEPS where a journal is kept, after the other two. */
+PIECEPICK_MUST piecepick_status piecepick_requested(piecepick_picker *picker, uint32_t worker, uint32_t piece, uint32_t begin, piecepick_answer *answer);
 /** From now on `depth` blocks may be requested from the peer at a time, until another number is set or the worker's next peer joins. What is
    requested stays so: where that is as many or more, the answer to a query is PIPE_FULL. QUIET, or REFUSED by NOT_JOINED or WRONG_DEPTH. */
 PIECEPICK_MUST piecepick_status piecepick_depth(piecepick_picker *picker, uint32_t worker, uint32_t depth, piecepick_answer *answer);
@@ -541,6 +555,7 @@ static inline const char *piecepick_kind_text(piecepick_kind kind) {
     case PIECEPICK_K_COMPLETE: return "complete";
     case PIECEPICK_K_FAILED: return "failed";
     case PIECEPICK_K_REFUSED: return "refused";
+    case PIECEPICK_K_IN_FLIGHT: return "in flight";
     }
     return "no kind of this interface";
 }
@@ -556,7 +571,7 @@ static inline const char *piecepick_reason_text(piecepick_reason reason) {
     case PIECEPICK_R_NO_SUCH_PIECE: return "no such piece";
     case PIECEPICK_R_NO_SUCH_BLOCK: return "no block begins there";
     case PIECEPICK_R_WRONG_LENGTH: return "wrong block length";
-    case PIECEPICK_R_NOT_WAITING: return "the piece isn't waiting for a check: a block is lacking, or it is complete";
+    case PIECEPICK_R_NOT_WAITING: return "the piece is complete, or the block can't be requested from this peer now";
     case PIECEPICK_R_STALE: return "the bytes that were hashed aren't those that the picker holds now";
     case PIECEPICK_R_NOT_REQUESTED: return "the block isn't requested from this peer";
     case PIECEPICK_R_WRONG_DEPTH: return "the depth must be 1 to the option deepest";

@@ -180,6 +180,7 @@ public:
     Answer lack(std::uint32_t worker, std::uint32_t piece) { return answer(piecepick_lack, worker, piece); }
     Answer release(std::uint32_t worker, std::uint32_t piece, std::uint32_t begin) { return answer(piecepick_release, worker, piece, begin); }
     Answer late(std::uint32_t worker, std::uint32_t piece, std::uint32_t begin) { return answer(piecepick_late, worker, piece, begin); }
+    Answer requested(std::uint32_t worker, std::uint32_t piece, std::uint32_t begin) { return answer(piecepick_requested, worker, piece, begin); }
     Answer depth(std::uint32_t worker, std::uint32_t blocks) { return answer(piecepick_depth, worker, blocks); }
     Answer reach(std::uint32_t worker, std::uint32_t level) { return answer(piecepick_reach, worker, level); }
     Answer alone(std::uint32_t worker, bool yes) { return answer(piecepick_alone, worker, std::uint32_t{yes}); }

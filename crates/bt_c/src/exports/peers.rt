@@ -313,6 +313,24 @@ pub extern "C" fn piecepick_late(
     tell(call_at_in_place(alloc, picker, worker, piece, told), answer)
 }
 
+/// The block that begins `begin` bytes into the piece was requested from the peer already, and is in flight: it counts from now on. A picker with
+/// a journal has requested all that is in flight.
+#[unsafe(no_mangle)]
+pub extern "C" fn piecepick_requested(
+    alloc: Global,
+    picker: &mut PickerHandle,
+    worker: u32,
+    piece: u32,
+    begin: u32,
+    answer: &mut Answer,
+) -> u32
+    ensures { Tells (λ h e o. MakesAt h e worker piece (actions.Requested piece begin) o)
+        picker.old.held picker.new.held result answer.new }
+{
+    let told = Told::Requested { piece, begin };
+    tell(call_at(alloc, picker, worker, piece, told), answer)
+}
+
 /// A `piece` message came: a block, `begin` bytes into the piece. A picker that keeps nothing reads none of its bytes, and another one keeps
 /// a copy.
 #[unsafe(no_mangle)]

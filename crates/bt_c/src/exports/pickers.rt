@@ -13,8 +13,8 @@ use std::alloc::Global;
 /// The number of this interface. It rises with each change that a caller compiled against an older one can't bear.
 const ABI: u32 = 1;
 
-/// The library's version, 1.1.0: 10,000 for its first number, 100 for its second, 1 for its third.
-const VERSION: u32 = 10_100;
+/// The library's version, 1.2.0: 10,000 for its first number, 100 for its second, 1 for its third.
+const VERSION: u32 = 10_200;
 
 /// The number of this interface, to be compared with the header's.
 #[unsafe(no_mangle)]
@@ -24,10 +24,10 @@ pub extern "C" fn piecepick_abi() -> u32
     ABI
 }
 
-/// The library's version as a number: 10,100 is 1.1.0.
+/// The library's version as a number: 10,200 is 1.2.0.
 #[unsafe(no_mangle)]
 pub extern "C" fn piecepick_version() -> u32
-    ensures { result ≡ 10100 }
+    ensures { result ≡ 10200 }
 {
     VERSION
 }

@@ -87,98 +87,74 @@ fn play_blocks(
     played.finish(rt, alloc, 0)
 }
 
-/// Writes all pieces, and checks what comes of it.
-fn writes<W: Sink>(
+/// Writes all pieces to a sink that takes so many bytes at once and has this room. Checks what comes of it, and what the sink took.
+fn writes(
     rt: &impl Abort,
+    alloc: Global,
     played: &Played,
-    writer: &mut W,
+    sink: (usize, usize, Full),
     wanted: Result<(), ContentFault>,
-) {
-    same(rt, played.write(writer), wanted, "all pieces");
+    taken: &[u8],
+) -> Result<(), Fail> {
+    let (at_once, room, full) = sink;
+    let mut writer = Little::new(alloc, at_once, room, full)?;
+    same(rt, played.write(&mut writer), wanted, "all pieces");
+    took(rt, &writer, taken);
+    Ok(())
 }
 
-/// Checks what a sink took.
-fn took(rt: &impl Abort, taken: &[u8], wanted: &[u8]) {
-    same(rt, taken, wanted, "what the sink took");
+/// Checks what a sink took, which failed where it has no room.
+fn took(rt: &impl Abort, sink: &Little, wanted: &[u8]) {
+    same(rt, sink.kept.as_slice(), wanted, "what the sink took");
+    assert!(rt; !sink.failed || sink.room == 0);
 }
+
+/// How many bytes a sink takes at once, its room, and how it is full; what comes of a write, and what the sink took. The first piece is
+/// written first, and a sink of enough room takes all.
+const ROWS: &[(
+    (usize, usize, Full),
+    Result<(), ContentFault>,
+    &'static [u8],
+)] = &[
+    ((100, 7, Full::Fails), Ok(()), b"abcabca"),
+    (
+        (100, 4, Full::Fails),
+        Err(ContentFault::WriteFault),
+        b"abca",
+    ),
+    ((1, 7, Full::Fails), Ok(()), b"abcabca"),
+];
 
 #[test]
 fn pieces_in_order(rt: HostRuntime) -> Result<(), Fail> {
     let played = with_blocks(&rt, rt.alloc(), 3)?;
-    writes_in_order(&rt, rt.alloc(), &played)
-}
-
-/// All pieces are written, the first one first.
-fn writes_in_order(rt: &impl Abort, alloc: Global, played: &Played) -> Result<(), Fail> {
-    let mut writer = ToWrite::new(Vec::with_capacity(alloc, 7)?);
-    writes(rt, played, &mut writer, Ok(()));
-    took(rt, &writer.into_inner(), b"abcabca");
-    Ok(())
-}
-
-#[test]
-fn a_write_of_four_bytes_and_no_more(rt: HostRuntime) -> Result<(), Fail> {
-    let played = with_blocks(&rt, rt.alloc(), 3)?;
-    write_fails(&rt, rt.alloc(), &played, 100, Full::Fails, b"abca")
-}
-
-/// The write fails, once a sink that has room for this front has taken it.
-fn write_fails(
-    rt: &impl Abort,
-    alloc: Global,
-    played: &Played,
-    at_once: usize,
-    full: Full,
-    front: &[u8],
-) -> Result<(), Fail> {
-    let mut writer = Little::new(alloc, at_once, front.len(), full)?;
-    writes(rt, played, &mut writer, Err(ContentFault::WriteFault));
-    took(rt, &writer.kept, front);
-    Ok(())
-}
-
-#[test]
-fn byte_by_byte_until_it_fails(rt: HostRuntime) -> Result<(), Fail> {
-    let played = with_blocks(&rt, rt.alloc(), 3)?;
+    for &(sink, wanted, taken) in ROWS {
+        writes(&rt, rt.alloc(), &played, sink, wanted, taken)?;
+    }
     writes_in_each_room(&rt, rt.alloc(), &played)
 }
 
-/// A sink takes as many bytes as it has room for, and all if that is enough.
+/// A sink takes as many bytes as it has room for, one at once, and then the write fails.
 fn writes_in_each_room(rt: &impl Abort, alloc: Global, played: &Played) -> Result<(), Fail> {
+    let failed = Err(ContentFault::WriteFault);
     for room in 0..7 {
         let front = &b"abcabca"[..room];
-        write_fails(rt, alloc, played, 1, Full::Fails, front)?;
-        write_fails(rt, alloc, played, 1, Full::TakesNone, front)?;
+        for full in [Full::Fails, Full::TakesNone] {
+            writes(rt, alloc, played, (1, room, full), failed, front)?;
+        }
     }
-    writes_byte_by_byte(rt, alloc, played)
-}
-
-/// A sink of enough room takes all, byte by byte.
-fn writes_byte_by_byte(rt: &impl Abort, alloc: Global, played: &Played) -> Result<(), Fail> {
-    let mut writer = Little::new(alloc, 1, 7, Full::Fails)?;
-    writes(rt, played, &mut writer, Ok(()));
-    took(rt, &writer.kept, b"abcabca");
     Ok(())
 }
 
+/// As a piece is missing, the sink gets nothing.
 #[test]
 fn nothing_where_a_piece_is_missing(rt: HostRuntime) -> Result<(), Fail> {
-    faults_are_numbered(&rt);
     let played = with_blocks(&rt, rt.alloc(), 2)?;
-    writes_nothing(&rt, rt.alloc(), &played)
-}
-
-fn faults_are_numbered(rt: &impl Abort) {
-    same(rt, ContentFault::Incomplete as u8, 1, "incomplete");
-    same(rt, ContentFault::WriteFault as u8, 2, "a write fault");
-}
-
-/// As a piece is missing, the sink gets nothing.
-fn writes_nothing(rt: &impl Abort, alloc: Global, played: &Played) -> Result<(), Fail> {
-    let mut writer = Little::new(alloc, 100, 100, Full::Fails)?;
-    writes(rt, played, &mut writer, Err(ContentFault::Incomplete));
-    took(rt, &writer.kept, b"");
-    same(rt, writer.failed, false, "whether the sink failed");
+    let incomplete = Err(ContentFault::Incomplete);
+    let sink = (100, 100, Full::Fails);
+    writes(&rt, rt.alloc(), &played, sink, incomplete, b"")?;
+    same(&rt, ContentFault::Incomplete as u8, 1, "incomplete");
+    same(&rt, ContentFault::WriteFault as u8, 2, "a write fault");
     Ok(())
 }
 
@@ -193,7 +169,7 @@ fn one_piece_once_it_is_had(rt: HostRuntime) -> Result<(), Fail> {
 fn writes_one_piece(rt: &impl Abort, alloc: Global, played: &Played) -> Result<(), Fail> {
     let mut writer = ToWrite::new(Vec::with_capacity(alloc, 3)?);
     write_two(rt, played, &mut writer);
-    took(rt, &writer.into_inner(), b"abc");
+    same(rt, writer.into_inner().as_slice(), b"abc", "the second");
     Ok(())
 }
 

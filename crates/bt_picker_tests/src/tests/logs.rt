@@ -1,36 +1,27 @@
 //! What a worker's log has after its calls.
 
-use super::setting::*;
+use super::gathering::gathers_logs;
+use super::seats::{Made, Step, played};
+use super::setting::{ARRIVED, Seated};
 use bt_expect::same;
-use bt_meta::Bitfield;
-use bt_picker::{Call, CallMark, Desk, Mark, Reason, Reply};
+use bt_picker::{CallMark, Desk, Mark, Reason, Reply};
 use bt_shared::{Book, GatherFault};
-use std::alloc::Global;
 use std::process::Abort;
-use std::sync::Wait;
 use std::test::*;
 
-/// One worker brings the last piece, and has it checked.
+/// One worker brings the last piece. There is a job of it, which then is had, and none of the first one.
+const BRINGS_A_PIECE: &[Step] = &[
+    Step::Says(0, Made::Join, Reply::Joined),
+    Step::Says(0, Made::Brings, Reply::Completed),
+    Step::Finds(0, 2, true),
+    Step::Finds(0, 0, false),
+    Step::Settles(0, 2, Reply::Had),
+    Step::Settles(0, 0, Reply::Refused(Reason::NotWaiting)),
+];
+
 #[test]
 fn one_worker_to_a_had_piece(rt: HostRuntime) -> Result<(), Fail> {
-    let mut seated = Seated::open(&rt, rt.alloc(), 1)?;
-    bring_a_piece(&rt, rt.alloc(), &mut seated)?;
-    gathers(&rt, seated.gather(rt.alloc()), ONE_LOG)
-}
-
-/// The worker joins, and the last piece comes and is checked.
-fn bring_a_piece<R: Wait + Abort>(rt: &R, alloc: Global, seated: &mut Seated) -> Result<(), Fail> {
-    seated.says(rt, 0, Call::Join, Reply::Joined)?;
-    seated.says(rt, 0, block(2, b"a"), Reply::Completed)?;
-    check_pieces(rt, alloc, seated)
-}
-
-/// There is a job of the last piece, which then is had, and none of the first one.
-fn check_pieces<R: Wait + Abort>(rt: &R, alloc: Global, seated: &mut Seated) -> Result<(), Fail> {
-    seated.finds(rt, alloc, 0, 2, true)?;
-    seated.finds(rt, alloc, 0, 0, false)?;
-    seated.settles(rt, alloc, 0, 2, Reply::Had)?;
-    seated.settles(rt, alloc, 0, 0, Reply::Refused(Reason::NotWaiting))
+    gathers_logs(&rt, rt.alloc(), 1, BRINGS_A_PIECE, ONE_LOG)
 }
 
 /// The calls by which the last piece comes and is had.
@@ -61,19 +52,17 @@ fn peers_of(rt: &impl Abort, desk: &Desk, piece: u32) -> u32 {
     desk.availability(piece)
 }
 
+/// A peer joins, and tells that it has the second piece.
+const TELLS_A_PIECE: &[Step] = &[
+    Step::Says(0, Made::Join, Reply::Joined),
+    Step::Says(0, Made::Bits(0x40), Reply::Noted(true)),
+];
+
 /// A peer tells its pieces. The entry has the bitfield, of which the mark has nothing.
 #[test]
 fn a_bitfield_is_entered_whole(rt: HostRuntime) -> Result<(), Fail> {
-    let mut seated = Seated::open(&rt, rt.alloc(), 1)?;
-    tell_a_piece(&rt, rt.alloc(), &mut seated)?;
+    let seated = played(&rt, rt.alloc(), 1, TELLS_A_PIECE)?;
     gathers_one_shown(&rt, seated.gather(rt.alloc()))
-}
-
-/// A peer joins, and tells that it has the second piece.
-fn tell_a_piece<R: Wait + Abort>(rt: &R, alloc: Global, seated: &mut Seated) -> Result<(), Fail> {
-    seated.says(rt, 0, Call::Join, Reply::Joined)?;
-    let told = Call::Bits(bits(alloc, 0x40)?);
-    seated.says(rt, 0, told, Reply::Noted(true))
 }
 
 /// One peer shows the second piece, and none another.
@@ -89,36 +78,19 @@ fn gathers_one_shown(rt: &impl Abort, gathered: Result<Book, GatherFault>) -> Re
     is_shown_by_one(rt, &book.desk)
 }
 
+/// The second worker's calls, of which two are refused and one isn't; then it asks for a check of a piece that isn't there.
+const REFUSED_CALLS: &[Step] = &[
+    Step::Says(1, Made::Leave, Reply::Refused(Reason::NotJoined)),
+    Step::Says(1, Made::WantsNoneOf(4), Reply::Refused(Reason::WrongCount)),
+    Step::Says(1, Made::Wants(0xe0), Reply::Quiet),
+    Step::Settles(1, 9, Reply::Refused(Reason::NoSuchPiece)),
+];
+
 /// Calls that are refused are entries, and have their marks; a check of a piece that doesn't wait for one is none.
 #[test]
 fn refused_calls_are_marked(rt: HostRuntime) -> Result<(), Fail> {
-    let mut seated = Seated::open(&rt, rt.alloc(), 2)?;
-    make_refused_calls(&rt, rt.alloc(), &mut seated)?;
+    let seated = played(&rt, rt.alloc(), 2, REFUSED_CALLS)?;
     has_refused_calls(&rt, &seated)
-}
-
-/// The second worker's calls, of which two are refused and one isn't; then it asks for a check of a piece that isn't there.
-fn make_refused_calls<R: Wait + Abort>(
-    rt: &R,
-    alloc: Global,
-    seated: &mut Seated,
-) -> Result<(), Fail> {
-    seated.says(rt, 1, Call::Leave, Reply::Refused(Reason::NotJoined))?;
-    want_too_many(rt, alloc, seated)?;
-    want_all(rt, alloc, seated)?;
-    seated.settles(rt, alloc, 1, 9, Reply::Refused(Reason::NoSuchPiece))
-}
-
-/// The second worker tells what is wanted of four pieces.
-fn want_too_many<R: Wait + Abort>(rt: &R, alloc: Global, seated: &mut Seated) -> Result<(), Fail> {
-    let call = Call::Want(Bitfield::empty(alloc, 4)?);
-    seated.says(rt, 1, call, Reply::Refused(Reason::WrongCount))
-}
-
-/// The second worker wants all pieces.
-fn want_all<R: Wait + Abort>(rt: &R, alloc: Global, seated: &mut Seated) -> Result<(), Fail> {
-    let call = Call::Want(bits(alloc, 0xe0)?);
-    seated.says(rt, 1, call, Reply::Quiet)
 }
 
 /// The calls of which two are refused.

@@ -384,7 +384,7 @@ impl Run {
         &mut self,
         alloc: Global,
         rng: &mut Lcg64Xsh32,
-        counts: &mut [u64; 27],
+        counts: &mut [u64; 28],
     ) -> Result<(), Fail> {
         for _ in 0..500 {
             count(counts, self.step(alloc, rng)?);
@@ -400,7 +400,7 @@ impl Run {
         alloc: Global,
         rules: Rules,
         rng: &mut Lcg64Xsh32,
-        counts: &mut [u64; 27],
+        counts: &mut [u64; 28],
     ) -> Result<(), Fail> {
         self.steps(alloc, rng, counts)?;
         self.judge(rt, alloc, rules)
@@ -447,9 +447,12 @@ impl Run {
     }
 }
 
+/// The place of the reply that no desk gives.
+const IN_FLIGHT: usize = 27;
+
 /// Each kind of reply has a place, each reason its own.
 fn kind(reply: Reply) -> usize
-    ensures { result < 27 }
+    ensures { result < 28 }
 {
     match reply {
         Reply::Joined => 0,
@@ -468,11 +471,12 @@ fn kind(reply: Reply) -> usize
         Reply::Had => 13,
         Reply::Failed => 14,
         Reply::Refused(reason) => 15 + reason as usize,
+        Reply::InFlight(_) => IN_FLIGHT,
     }
 }
 
 /// Counts a reply by its kind.
-fn count(counts: &mut [u64; 27], reply: Reply) {
+fn count(counts: &mut [u64; 28], reply: Reply) {
     let place = kind(reply);
     counts[place] = counts[place].saturating_add(1);
 }
@@ -482,7 +486,7 @@ fn one_journal(
     rt: &impl Abort,
     alloc: Global,
     seed: u64,
-    counts: &mut [u64; 27],
+    counts: &mut [u64; 28],
 ) -> Result<(), Fail> {
     let mut rng = Lcg64Xsh32::new(seed, 1);
     let rules = any_rules(&mut rng);
@@ -495,7 +499,7 @@ fn journals(
     rt: &impl Abort,
     alloc: Global,
     seeds: u64,
-    counts: &mut [u64; 27],
+    counts: &mut [u64; 28],
 ) -> Result<(), Fail> {
     for seed in 0..seeds {
         one_journal(rt, alloc, seed, counts)?;
@@ -505,8 +509,9 @@ fn journals(
 
 #[test]
 fn journals_of_random_calls(rt: HostRuntime) -> Result<(), Fail> {
-    let mut counts = [0_u64; 27];
+    let mut counts = [0_u64; 28];
     journals(&rt, rt.alloc(), 40, &mut counts)?;
-    assert!(rt; !counts.contains(&0));
+    let never = counts.iter().position(|count| *count == 0);
+    assert!(rt; never == Some(IN_FLIGHT));
     Ok(())
 }

@@ -4,8 +4,6 @@ mod examples;
 mod faults;
 mod picks;
 mod reports;
-mod roads;
-mod saving;
 mod scripts;
 mod serial;
 mod settings;

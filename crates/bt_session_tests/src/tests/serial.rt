@@ -213,33 +213,6 @@ fn asks_for(alloc: Global, worker: u8, piece: u8, finished: &[u8]) -> Result<Vec
     wanted(alloc, worker, &said)
 }
 
-/// What a peer of another torrent sends, one that breaks off, and one without fault.
-fn sent_by_three(alloc: Global) -> Result<[Vec<u8>; 3], Fail> {
-    let stranger = peer(alloc, 2, &PEER)?;
-    let front = peer(alloc, 1, &PEER[..7])?;
-    let whole = peer(alloc, 1, &PEER)?;
-    Ok([stranger, front, whole])
-}
-
-#[test]
-fn a_fault_ends_one_session_alone(rt: HostRuntime) -> Result<(), Fail> {
-    let sent = sent_by_three(rt.alloc())?;
-    let told = told(rt.alloc(), torrent(rt.alloc())?, &sent, 0, None)?;
-    has_two_faults(&rt, &told);
-    Ok(())
-}
-
-/// Of three sessions the last one ends well, and with it all pieces are there.
-fn has_two_faults(rt: &impl Abort, told: &Outcome) {
-    let ends = [
-        Err(SessionFault::WrongInfohash),
-        Err(SessionFault::Truncated),
-        Ok(End { messages: 3 }),
-    ];
-    assert!(rt; told.ends.as_slice() == ends.as_slice());
-    assert!(rt; told.is_complete);
-}
-
 #[test]
 fn numbers_come_from_the_seed(rt: HostRuntime) -> Result<(), Fail> {
     let sent = sent_by_two(rt.alloc())?;

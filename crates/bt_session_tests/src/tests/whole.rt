@@ -9,7 +9,6 @@ use bt_meta::{Bitfield, FromRead, Sink, Source, Torrent};
 use bt_peer::whole::session;
 use bt_peer::{DeskPlace, End, SessionFault};
 use bt_picker::{Call, Desk, Entry};
-use bt_wire::WireFault;
 use rand_pcg::Lcg64Xsh32;
 use std::alloc::{AllocError, Global};
 use std::fmt::Write;
@@ -167,65 +166,4 @@ pub fn whole_written(alloc: Global, worker: u8) -> Result<Vec<u8>, Fail> {
         0, 0, 0, 0, 1, 3,
     ])?;
     Ok(wanted)
-}
-
-/// The calls of a session whose peer breaks off in the block.
-const BEGUN: &str = "join = Joined; bits = Noted(true); next = Choked; unchoke = Quiet; \
-    next = Request(Block { piece: 0, begin: 0, len: 3 }); next = Idle; leave = Quiet; ";
-
-/// Frames that are at fault, the fault, and the calls before it.
-const ROWS: &[(&[u8], SessionFault, &str)] = &[
-    (
-        &[0, 0, 0, 2, 5, 192],
-        SessionFault::BadBits,
-        "join = Joined; leave = Quiet; ",
-    ),
-    (
-        &[0, 16, 0, 1],
-        SessionFault::Wire(WireFault::TooLong),
-        "join = Joined; leave = Quiet; ",
-    ),
-];
-
-#[test]
-fn faults(rt: HostRuntime) -> Result<(), Fail> {
-    let alloc = rt.alloc();
-    peer_is_at_fault(&rt, alloc, 1, &PEER[..26], SessionFault::Truncated, BEGUN)?;
-    peer_is_at_fault(&rt, alloc, 2, &PEER, SessionFault::WrongInfohash, "")?;
-    for &(frames, fault, wanted) in ROWS {
-        peer_is_at_fault(&rt, alloc, 1, frames, fault, wanted)?;
-    }
-    ends_with_fault(
-        &rt,
-        rt.alloc(),
-        b"\x13BitTorrent",
-        SessionFault::Truncated,
-        "",
-    )
-}
-
-/// The session with a peer that sends these frames ends with this fault, after these calls.
-fn peer_is_at_fault(
-    rt: &impl Abort,
-    alloc: Global,
-    infohash: u8,
-    frames: &[u8],
-    fault: SessionFault,
-    wanted: &str,
-) -> Result<(), Fail> {
-    let sent = peer(alloc, infohash, frames)?;
-    ends_with_fault(rt, alloc, &sent, fault, wanted)
-}
-
-/// The session of this stream ends with this fault, after these calls.
-fn ends_with_fault(
-    rt: &impl Abort,
-    alloc: Global,
-    sent: &[u8],
-    fault: SessionFault,
-    wanted: &str,
-) -> Result<(), Fail> {
-    let (end, calls, _) = told(alloc, sent)?;
-    assert!(rt; end == Err(fault));
-    same(calls.as_str(), wanted)
 }

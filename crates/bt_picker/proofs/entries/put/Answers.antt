@@ -8,6 +8,7 @@ use Rattle.bt_picker.proofs.PeerSteps.{shows_length}
 use Rattle.bt_picker.proofs.Entered.{level_piece, cause_none, entered_counted, bits_facts, have_facts, haves_facts, lack_facts, lines_short, pieces_few}
 use Rattle.bt_picker.proofs.Entered.{discard_facts, loss_piece, pieces_short, shown_counted, arrival_askers, arrival_block, has_room}
 use Rattle.bt_picker.proofs.Learning.{told_floor, unnoted_floor}
+use Rattle.bt_picker.specs.Told.{telling}
 use Rattle.bt_picker.proofs.entries.put.Goals as goal
 
 pub learn-requires-clause-told : goal.learn-requires-clause-told
@@ -70,9 +71,11 @@ put_have-requires-clause-few c =
 
 pub put_next-requires-clause-request : goal.put_next-requires-clause-request
 put_next-requires-clause-request c b is =
-    let allowed = rw (c.in-Next.is, is) at c.requires.allowed in
-    rw c.learn.ensures
-    (has_room _ _ c.requires.are c.args.worker c.in-Next.field-0 b allowed)
+    rw c.learn.ensures (has_room _ _ c.requires.are (telling c.args.worker c.args.told.now c.args.reply) b c.requires.allowed is)
+
+pub put_next-requires-in-Requested-clause-request : goal.put_next-requires-in-Requested-clause-request
+put_next-requires-in-Requested-clause-request c b is =
+    has_room _ _ c.requires.are (telling c.args.worker c.args.told.now c.args.reply) b c.requires.allowed is
 
 pub put_arrival-requires-clause-stored : goal.put_arrival-requires-clause-stored
 put_arrival-requires-clause-stored c storing =

@@ -1,8 +1,9 @@
 //! Torrents of 4 GiB and of 4 MiB of zeros, played through, a piece of 32 MiB, and one of many pieces.
 
-use super::super::abc::A;
-use super::steps::*;
-use bt_meta::Torrent;
+use super::steps::{arrives, keeper_of, settle, settle_now, tells, verdict_of};
+use crate::tests::abc::A;
+use crate::tests::same::same;
+use bt_meta::{Block, Torrent};
 use bt_picker::*;
 use bytes::Bytes;
 use std::alloc::Global;
@@ -38,41 +39,50 @@ const LARGE_HASH: [u8; 20] = [
     0xdf, 0xe7, 0x64, 0x49,
 ];
 
-/// A keeper of so many pieces of zeros, and the block that each of them has sixteen times.
-fn keeper_of_zeros(rt: &impl Abort, alloc: Global, pieces: u32) -> Result<(Keeper, Bytes), Fail> {
-    let hashes = vec![in alloc; HASH; pieces as usize]?;
-    let total = u64::from(PIECE_LENGTH) * u64::from(pieces);
-    let torrent = Torrent::of_parts(PIECE_LENGTH, total, hashes, [0; 20])?;
-    let zeros = Bytes::from_vec(vec![in alloc; 0; 16_384]?)?;
-    Ok((keeper_of(rt, alloc, torrent)?, zeros))
+/// A block of zeros.
+fn zeros(alloc: Global) -> Result<Bytes, Fail> {
+    Ok(Bytes::from_vec(vec![in alloc; 0; 16_384]?)?)
 }
 
-/// One peer has all of it. Each piece is had, and its blocks are handed out and let go: so what is held at any time is one piece.
-fn plays_through(
-    rt: &impl Abort,
+/// A torrent of so many pieces that have this hash.
+fn torrent_of(
     alloc: Global,
-    keeper: &mut Keeper,
-    zeros: &Bytes,
+    piece_length: u32,
     pieces: u32,
-) -> Result<(), Fail> {
+    hash: [u8; 20],
+) -> Result<Torrent, Fail> {
+    let hashes = vec![in alloc; hash; pieces as usize]?;
+    let total = u64::from(piece_length) * u64::from(pieces);
+    Ok(Torrent::of_parts(piece_length, total, hashes, [0; 20])?)
+}
+
+/// One peer has so many pieces of zeros. Each piece is had, and its blocks are handed out and let go: so what is held at any time is one
+/// piece.
+fn plays_through(rt: &impl Abort, alloc: Global, pieces: u32) -> Result<(), Fail> {
+    let zeros = zeros(alloc)?;
+    let torrent = torrent_of(alloc, PIECE_LENGTH, pieces, HASH)?;
+    let mut keeper = keeper_of(rt, alloc, torrent)?;
     for _ in 0..pieces {
-        downloads(rt, alloc, keeper, zeros)?;
+        downloads(rt, alloc, &mut keeper, &zeros)?;
     }
+    has_all(rt, alloc, &mut keeper)
+}
+
+/// Nothing is left to ask for.
+fn has_all(rt: &impl Abort, alloc: Global, keeper: &mut Keeper) -> Result<(), Fail> {
     assert!(rt; keeper.picker().is_complete());
-    tells(rt, alloc, keeper, Told::Next(0), Reply::NothingLeft)
+    tells(rt, alloc, keeper, 0, Told::Next(0), Reply::NothingLeft)
 }
 
 #[test]
 fn four_gib_from_one_peer(rt: HostRuntime) -> Result<(), Fail> {
-    let (mut keeper, zeros) = keeper_of_zeros(&rt, rt.alloc(), PIECES)?;
-    plays_through(&rt, rt.alloc(), &mut keeper, &zeros, PIECES)
+    plays_through(&rt, rt.alloc(), PIECES)
 }
 
 /// The same of few pieces, so that each of its allocations can be refused in turn.
 #[test]
 fn four_mib_from_one_peer(rt: HostRuntime) -> Result<(), Fail> {
-    let (mut keeper, zeros) = keeper_of_zeros(&rt, rt.alloc(), FEW_PIECES)?;
-    plays_through(&rt, rt.alloc(), &mut keeper, &zeros, FEW_PIECES)
+    plays_through(&rt, rt.alloc(), FEW_PIECES)
 }
 
 /// The next piece is downloaded, block by block, and its blocks are handed out.
@@ -82,42 +92,70 @@ fn downloads(
     keeper: &mut Keeper,
     zeros: &Bytes,
 ) -> Result<(), Fail> {
-    for _ in 1..BLOCKS {
-        let piece = downloads_one(rt, alloc, keeper, zeros, Reply::Stored)?;
-        assert!(rt; !keeper.picker().is_waiting(piece));
+    for index in 0..BLOCKS {
+        let block = asks(rt, alloc, keeper)?;
+        comes(rt, alloc, keeper, zeros, block, index + 1 == BLOCKS)?;
+        if index + 1 == BLOCKS {
+            let settled = settle_now(keeper, 0, block.piece);
+            hands_out(rt, &settled, BLOCKS as usize);
+        }
     }
-    let piece = downloads_one(rt, alloc, keeper, zeros, Reply::Completed)?;
-    let settled = keeper.settle_now(0, piece);
-    replies(rt, settled.reply, Reply::Had);
-    assert!(rt; settled.blocks.len() == BLOCKS as usize);
     Ok(())
 }
 
-/// The next block is asked for, and comes. Gives its piece.
-fn downloads_one(
+/// The block that the first worker's peer is asked for, at the random number 0.
+fn asks(rt: &impl Abort, alloc: Global, keeper: &mut Keeper) -> Result<Block, Fail> {
+    match keeper.tell(alloc, 0, Told::Next(0))? {
+        Reply::Request(block) => Ok(block),
+        _ => panic!(rt; "no block is asked for"),
+    }
+}
+
+/// The block comes, and with the last one of its piece the piece waits for its check.
+fn comes(
     rt: &impl Abort,
     alloc: Global,
     keeper: &mut Keeper,
     zeros: &Bytes,
-    wanted: Reply,
-) -> Result<u32, Fail> {
-    let block = asks(rt, alloc, keeper)?;
-    let reply = keeper.arrived(alloc, 0, block.piece, block.begin, zeros.clone()?)?;
-    replies(rt, reply, wanted);
-    Ok(block.piece)
+    block: Block,
+    is_last: bool,
+) -> Result<(), Fail> {
+    let wanted = if is_last {
+        Reply::Completed
+    } else {
+        Reply::Stored
+    };
+    let bytes = zeros.clone()?;
+    arrives(
+        rt,
+        alloc,
+        keeper,
+        0,
+        block.piece,
+        block.begin,
+        bytes,
+        wanted,
+    )?;
+    assert!(rt; keeper.picker().is_waiting(block.piece) == is_last);
+    Ok(())
 }
 
-/// The blocks of a piece of 32 MiB come, the last one as another reply.
+/// The piece is had, and so many blocks are handed out.
+fn hands_out(rt: &impl Abort, settled: &Settled, blocks: usize) {
+    same(rt, settled.reply, Reply::Had, "a check");
+    same(rt, settled.blocks.len(), blocks, "blocks");
+}
+
+/// The blocks of a piece of 32 MiB come.
 fn brings_a_large_piece(rt: &impl Abort, alloc: Global, keeper: &mut Keeper) -> Result<(), Fail> {
-    let zeros = Bytes::from_vec(vec![in alloc; 0; 16_384]?)?;
+    let zeros = zeros(alloc)?;
     for index in 0..LARGE_BLOCKS {
-        let wanted = if index + 1 < LARGE_BLOCKS {
-            Reply::Stored
-        } else {
-            Reply::Completed
+        let block = Block {
+            piece: 0,
+            begin: 16_384 * index,
+            len: 16_384,
         };
-        let reply = keeper.arrived(alloc, 0, 0, 16_384 * index, zeros.clone()?)?;
-        replies(rt, reply, wanted);
+        comes(rt, alloc, keeper, &zeros, block, index + 1 == LARGE_BLOCKS)?;
     }
     Ok(())
 }
@@ -131,30 +169,34 @@ fn settles_by_a_job(
     blocks: usize,
 ) -> Result<(), Fail> {
     let verdict = verdict_of(rt, alloc, keeper, piece)?;
-    let settled = keeper.settle(0, &verdict);
-    replies(rt, settled.reply, Reply::Had);
-    assert!(rt; settled.blocks.len() == blocks);
+    let settled = settle(keeper, &verdict);
+    hands_out(rt, &settled, blocks);
     Ok(())
 }
 
 /// With ample memory a keeper has room for each block of a large piece, and for its job.
 #[test]
 fn a_piece_of_32_mib_is_kept(rt: HostRuntime) -> Result<(), Fail> {
-    let alloc = rt.alloc();
-    let hashes = vec![in alloc; LARGE_HASH; 1]?;
-    let torrent = Torrent::of_parts(LARGE, u64::from(LARGE), hashes, [0; 20])?;
-    let mut keeper = keeper_of(&rt, alloc, torrent)?;
-    brings_a_large_piece(&rt, alloc, &mut keeper)?;
-    settles_by_a_job(&rt, alloc, &mut keeper, 0, LARGE_BLOCKS as usize)
+    let torrent = torrent_of(rt.alloc(), LARGE, 1, LARGE_HASH)?;
+    let mut keeper = keeper_of(&rt, rt.alloc(), torrent)?;
+    brings_a_large_piece(&rt, rt.alloc(), &mut keeper)?;
+    settles_by_a_job(&rt, rt.alloc(), &mut keeper, 0, LARGE_BLOCKS as usize)
 }
 
 /// And for a block of the last of many pieces, with its job.
 #[test]
 fn the_last_of_200_000_pieces(rt: HostRuntime) -> Result<(), Fail> {
-    let alloc = rt.alloc();
-    let hashes = vec![in alloc; A; 200_000]?;
-    let torrent = Torrent::of_parts(1, 200_000, hashes, [0; 20])?;
-    let mut keeper = keeper_of(&rt, alloc, torrent)?;
-    brings(&rt, alloc, &mut keeper, 0, 199_999, b"a", Reply::Completed)?;
-    settles_by_a_job(&rt, alloc, &mut keeper, 199_999, 1)
+    let mut keeper = keeper_of(&rt, rt.alloc(), torrent_of(rt.alloc(), 1, 200_000, A)?)?;
+    let bytes = Bytes::from_static(b"a");
+    arrives(
+        &rt,
+        rt.alloc(),
+        &mut keeper,
+        0,
+        199_999,
+        0,
+        bytes,
+        Reply::Completed,
+    )?;
+    settles_by_a_job(&rt, rt.alloc(), &mut keeper, 199_999, 1)
 }

@@ -1,7 +1,6 @@
 //! Messages and inbound streams, by worked examples. What is fed, given and put goes through functions without an `ensures`, so that a test
 //! knows of what they say alone, and its proof is short.
 
-ghost use Rattle.std.specs.Prelude.{length, ◌≤◌};
 ghost use Rattle.bt_wire.specs.Messages.{CanEncode};
 
 use bt_expect::{same, same_for};
@@ -322,80 +321,37 @@ fn put(message: &Message, out: &mut Vec<u8>) -> Result<(), AllocError>
     encode(message, out)
 }
 
-/// Puts the messages that have no bytes in them, up to the first that has some.
-fn put_the_first(out: &mut Vec<u8>) -> Result<(), AllocError> {
-    put(&Message::KeepAlive, out)?;
-    put(&Message::Choke, out)?;
-    put(&Message::Unchoke, out)?;
-    put(&Message::Interested, out)?;
-    put(&Message::NotInterested, out)?;
-    put(&Message::Have(2), out)
-}
-
-/// Puts a bitfield of one byte.
-fn put_bits(out: &mut Vec<u8>) -> Result<(), AllocError> {
-    put(&Message::Bits(Bytes::from_static(&[224])), out)
-}
-
-/// Puts a block of three bytes.
-fn put_block(out: &mut Vec<u8>) -> Result<(), AllocError> {
-    let block = Message::Piece {
-        piece: 0,
-        begin: 0,
-        bytes: Bytes::from_static(b"abc"),
-    };
-    put(&block, out)
-}
-
-/// Puts the other messages.
-fn put_the_others(out: &mut Vec<u8>) -> Result<(), AllocError> {
+/// The message at this place of `EACH_KIND`.
+fn message_at(place: usize) -> Message
+    ensures { CanEncode result }
+{
     let (piece, begin, len) = (0x01_02_03_04, 0x05_06_07_08, 16_384);
-    put_bits(out)?;
-    put(&Message::Request { piece, begin, len }, out)?;
-    put_block(out)?;
-    put(&Message::Cancel { piece, begin, len }, out)?;
-    put(&Message::Unknown(20), out)
+    match place {
+        0 => Message::KeepAlive,
+        1 => Message::Choke,
+        2 => Message::Unchoke,
+        3 => Message::Interested,
+        4 => Message::NotInterested,
+        5 => Message::Have(2),
+        6 => Message::Bits(Bytes::from_static(&[224])),
+        7 => Message::Request { piece, begin, len },
+        8 => Message::Piece {
+            piece: 0,
+            begin: 0,
+            bytes: Bytes::from_static(b"abc"),
+        },
+        9 => Message::Cancel { piece, begin, len },
+        _ => Message::Unknown(20),
+    }
 }
 
 #[test]
 fn encoded(rt: HostRuntime) -> Result<(), Fail> {
     let mut out = Vec::new(rt.alloc());
-    put_the_first(&mut out)?;
-    put_the_others(&mut out)?;
-    same(out.as_slice(), EACH_KIND.as_slice())
-}
-
-/// Five messages, and the front of another.
-const FRAMES: [u8; 33] = [
-    0, 0, 0, 0, 0, 0, 0, 2, 20, 255, 0, 0, 0, 5, 4, 0, 0, 0, 2, 0, 0, 0, 1, 0, 0, 0, 0, 2, 5, 128,
-    0, 16, 0,
-];
-
-/// What stands in front as the bytes come in two pieces, the first of this length, and how many bytes stand behind.
-fn told_in_two(alloc: Global, frames: &[u8], len: usize) -> Result<(String, usize), Fail>
-    requires { len ≤ length frames.now }
-{
-    let (first, second) = frames.split_at(len);
-    let mut inbound = greeted(alloc)?;
-    let mut said = String::new(alloc);
-    feed_and_tell(alloc, &mut inbound, first, &mut said)?;
-    feed_and_tell(alloc, &mut inbound, second, &mut said)?;
-    Ok((said, rest(&inbound)))
-}
-
-#[test]
-fn every_cut_in_two(rt: HostRuntime) -> Result<(), Fail> {
-    let frames = FRAMES.as_slice();
-    for at in 0..frames.len() {
-        let (said, rest) = told_in_two(rt.alloc(), frames, at)?;
-        same_for(
-            said.as_str(),
-            "KeepAlive Unknown(20) Have(2) Choke Bits(b\"\\x80\") ",
-            at,
-        )?;
-        same(rest, 3)?;
+    for place in 0..11 {
+        put(&message_at(place), &mut out)?;
     }
-    Ok(())
+    same(out.as_slice(), EACH_KIND.as_slice())
 }
 
 /// Puts the message behind the others. One that found no room has left no byte, and is put once more.
@@ -413,35 +369,6 @@ fn put_haves(pieces: u32, out: &mut Vec<u8>) -> Result<(), AllocError> {
         put_have(piece, out)?;
     }
     Ok(())
-}
-
-/// Whether the message in front tells of this piece.
-fn gives_have(alloc: Global, inbound: &mut Inbound, piece: u32) -> Result<bool, WireFault> {
-    match next_again(inbound, alloc)? {
-        Some(Message::Have(given)) => Ok(given == piece),
-        _ => Ok(false),
-    }
-}
-
-/// Takes a message of each piece at once, and gives one after another.
-fn takes_many(
-    rt: &impl Abort,
-    alloc: Global,
-    inbound: &mut Inbound,
-    stream: &[u8],
-) -> Result<(), Fail> {
-    feed_again(inbound, stream)?;
-    for piece in 0..20_000 {
-        assert!(rt; gives_have(alloc, inbound, piece)?);
-    }
-    same(rest(inbound), 0)
-}
-
-#[test]
-fn many_messages_in_one_feed(rt: HostRuntime) -> Result<(), Fail> {
-    let mut stream = Vec::new(rt.alloc());
-    put_haves(20_000, &mut stream)?;
-    takes_many(&rt, rt.alloc(), &mut greeted(rt.alloc())?, &stream)
 }
 
 /// Checks that the bytes are a message of each of a hundred pieces.

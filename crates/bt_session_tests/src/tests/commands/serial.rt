@@ -65,17 +65,6 @@ pub const THREE_PIECES: &[u8] =
 pub const INFOHASH_OF_THREE: &[u8; 20] =
     b"\x8c\x98\x3b\xc3\xdc\x1b\xcd\xae\x5f\x59\xaa\x68\x33\xea\xa3\x0c\xfd\xc7\x25\xfa";
 
-/// A run of one stream.
-pub fn run(alloc: Global, meta: &[u8], sent: &[u8]) -> Result<Run, Fail> {
-    let mut streams = [recorded(alloc, sent)?];
-    let mut out = ToWrite::new(page(alloc)?);
-    let run = play_streams(alloc, meta, &mut streams, &usual(), &mut out)?;
-    match run.ended {
-        Err(Fault::Memory) => Err(AllocError)?,
-        _ => Ok(run),
-    }
-}
-
 /// The command with this output: its status, and whether there is a desk.
 fn command(
     alloc: Global,

@@ -1,12 +1,9 @@
-//! The command `run`: sessions in threads, with the report of a run in one thread. Its statuses are those of whole command lines, in
-//! `data/commands`.
+//! Runs in threads over memory. Their reports and statuses are those of whole command lines too, in `bt_cli_tests`.
 
 ghost use Rattle.std.specs.Prelude.{◌≤◌, length};
 
 use super::scripts::{had_memory, page};
-use super::serial::{
-    FILE, FRAMES, INFOHASH, INFOHASH_OF_THREE, Recorded, THREE_PIECES, recorded, stream, usual,
-};
+use super::serial::{INFOHASH_OF_THREE, Recorded, THREE_PIECES, recorded, stream, usual};
 use bt_cli::*;
 use bt_expect::same;
 use bt_meta::ToWrite;
@@ -24,47 +21,24 @@ struct Done {
     logs: Option<usize>,
 }
 
-/// The command with this output: its status, and how many logs its book has. The tests call `run_threads` here alone, so that its contract
-/// is read once.
-fn played<T: Threads + Wait + AllocGlobal + Sync>(
-    rt: &T,
-    meta: &[u8],
-    streams: Vec<Recorded<'_>>,
-    options: &Options,
-    out: &mut ToWrite<&mut [u8]>,
-    err: &mut Vec<u8>,
-) -> (u8, Option<usize>)
-    requires streams { (1 ≤ length streams.items) × (length streams.items ≤ 64) }
-    requires depth { (1 ≤ options.now.rules.depth) × (options.now.rules.depth ≤ MOST_DEPTH) }
-    requires checkers { (1 ≤ options.now.checkers) × (options.now.checkers ≤ 8) }
-{
-    let (status, book) = run_threads(rt, meta, streams, options, out, err);
-    (status, book.map(|book| book.logs.len()))
-}
-
-/// The command with an output that takes so many bytes.
+/// The command by these options. The tests call `run_threads` here alone, so that its contract is read once.
 fn command<T: Threads + Wait + AllocGlobal + Sync>(
     rt: &T,
-    meta: &[u8],
     streams: Vec<Recorded<'_>>,
     options: &Options,
-    room: usize,
 ) -> Result<Done, Fail>
     requires streams { (1 ≤ length streams.items) × (length streams.items ≤ 64) }
     requires depth { (1 ≤ options.now.rules.depth) × (options.now.rules.depth ≤ MOST_DEPTH) }
     requires checkers { (1 ≤ options.now.checkers) × (options.now.checkers ≤ 8) }
 {
-    let mut taken = vec![in rt.alloc(); 0_u8; room]?;
-    let mut out = ToWrite::new(taken.as_mut_slice());
+    let mut out = ToWrite::new(page(rt.alloc())?);
     let mut err = page(rt.alloc())?;
-    let (status, logs) = played(rt, meta, streams, options, &mut out, &mut err);
-    let left = out.into_inner().len();
-    taken.truncate(room.saturating_sub(left));
+    let (status, book) = run_threads(rt, THREE_PIECES, streams, options, &mut out, &mut err);
     Ok(Done {
         status: had_memory(status)?,
-        out: taken,
+        out: out.into_inner(),
         err,
-        logs,
+        logs: book.map(|book| book.logs.len()),
     })
 }
 
@@ -80,7 +54,7 @@ fn run_of_two<T: Threads + Wait + AllocGlobal + Sync>(
         rt.alloc(),
         [recorded(rt.alloc(), first)?, recorded(rt.alloc(), second)?],
     )?;
-    command(rt, THREE_PIECES, streams, &options, 1000)
+    command(rt, streams, &options)
 }
 
 /// Checks a run that has all three pieces.
@@ -112,23 +86,47 @@ fn three_pieces_of_two_peers(rt: HostRuntime) -> Result<(), Fail> {
     has_three_pieces(&rt, &done)
 }
 
-/// A run of one peer that sends this, with an output that takes 20 bytes.
-fn run_of_one<T: Threads + Wait + AllocGlobal + Sync>(rt: &T, sent: &[u8]) -> Result<Done, Fail> {
-    let streams = Vec::from_array(rt.alloc(), [recorded(rt.alloc(), sent)?])?;
-    command(rt, FILE, streams, &usual(), 20)
+/// How many requests stand in what was written to a peer.
+fn requests_in(written: &[u8]) -> usize {
+    let head = b"\0\0\0\x0d\x06".as_slice();
+    written.windows(5).filter(|bytes| *bytes == head).count()
 }
 
-/// Checks a run whose output was full.
-fn was_full(done: &Done) -> Result<(), Fail> {
-    same(done.status, 4)?;
-    same(done.out.as_slice(), b"stream 0 end\npieces ".as_slice())?;
-    same(done.err.as_slice(), b"file fault\n".as_slice())?;
-    same(done.logs, Some(3))
+/// What a run to this depth writes to each peer, of which none gives a piece.
+fn played<'a, T: Threads + Wait + AllocGlobal + Sync>(
+    rt: &T,
+    streams: Vec<Recorded<'a>>,
+    depth: u32,
+) -> Result<Vec<Recorded<'a>>, Fail>
+    requires streams { (1 ≤ length streams.items) × (length streams.items ≤ 64) }
+    requires depth { (1 ≤ depth) × (depth ≤ MOST_DEPTH) }
+{
+    let mut options = usual();
+    options.rules.depth = depth;
+    let mut out = ToWrite::new(page(rt.alloc())?);
+    let run = play_threads(rt, THREE_PIECES, streams, &options, &mut out)?;
+    same(had_memory(run.status())?, 1)?;
+    Ok(run.streams)
 }
 
+/// How many requests a run to this depth makes of a peer that has three pieces, lets itself be asked, and gives none.
+fn asked_at_once<T: Threads + Wait + AllocGlobal + Sync>(rt: &T, depth: u32) -> Result<usize, Fail>
+    requires { (1 ≤ depth) × (depth ≤ MOST_DEPTH) }
+{
+    let frames = b"\0\0\0\x02\x05\xe0\0\0\0\x01\x01";
+    let sent = stream(rt.alloc(), INFOHASH_OF_THREE, frames)?;
+    let streams = vec![in rt.alloc(); recorded(rt.alloc(), &sent)?]?;
+    let mut asked: usize = 0;
+    for stream in played(rt, streams, depth)? {
+        asked = asked.saturating_add(requests_in(&stream.writer.into_inner()));
+    }
+    Ok(asked)
+}
+
+/// With three pieces of a block each, two requests are in flight at depth 2, and at depth 5 as many as there are blocks.
 #[test]
-fn a_full_output(rt: HostRuntime) -> Result<(), Fail> {
-    let sent = stream(rt.alloc(), INFOHASH, FRAMES)?;
-    let done = run_of_one(&rt, &sent)?;
-    was_full(&done)
+fn a_run_asks_to_its_depth(rt: HostRuntime) -> Result<(), Fail> {
+    same(asked_at_once(&rt, 1)?, 1)?;
+    same(asked_at_once(&rt, 2)?, 2)?;
+    same(asked_at_once(&rt, 5)?, 3)
 }
