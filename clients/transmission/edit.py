@@ -54,20 +54,8 @@ WISHLIST = f"{LIBRARY}/peer-mgr-wishlist"
 MANAGER = f"{LIBRARY}/peer-mgr.cc"
 MESSAGES = f"{LIBRARY}/peer-msgs.cc"
 BUILD = f"{LIBRARY}/CMakeLists.txt"
-ASK = """\
-    if (auto spans = piecepick.next(n_wanted_blocks))
-    {
-        return *std::move(spans);
-    }
-"""
-UNWANTED = """\
-// what follows a block that nobody waits for: at Err the bytes behind it stay unread until more of them come
-#ifdef WITH_PIECEPICK
-inline auto constexpr AfterUnwanted = ReadState::Now;
-#else
-inline auto constexpr AfterUnwanted = ReadState::Err;
-#endif
-"""
+INCLUDE = '#include "libtransmission/peer-mgr-piecepick.h"\n'
+ASK = "    tr_piecepick(if (auto spans = piecepick.next(n_wanted_blocks)) { return *std::move(spans); })\n"
 TOLD = "        tr_piecepick(if (s->wishlist) { s->wishlist->piecepick.told(*PEER, event); });\n"
 RECHOKE = (
     "    tr_piecepick(libtransmission::ObserverTag wanted_ = tor->priority_changed_.observe([this](auto&&...) "
@@ -77,24 +65,23 @@ CHANGED = "            priority_changed_.emit(this, files, n_files, TR_PRI_NORMA
 
 EDITS = (
     behind("CMakeLists.txt", r"option\(ENABLE_UTP ", 'option(ENABLE_PIECEPICK "Choose what to request by the piecepick library" OFF)\n'),
-    before("CMakeLists.txt", r"find_package\(Threads\)", "if(ENABLE_PIECEPICK)\n    find_package(piecepick 1.1 REQUIRED CONFIG)\nendif()\n"),
+    before("CMakeLists.txt", r"find_package\(Threads\)", "if(ENABLE_PIECEPICK)\n    find_package(piecepick 1.2 REQUIRED CONFIG)\nendif()\n"),
     before(BUILD, r" peer-mgr-wishlist\.cc", "".join(f"        {name}\n" for name in FILES)),
     before(BUILD, r"\[=\[\[WITH_INOTIFY\]\]=\]", "    [=[[ENABLE_PIECEPICK]]=]\n        peer-mgr-piecepick.cc\n"),
     before(BUILD, r"<STREQUAL:\$\{CRYPTO_PKG\},ccrypto>", "        $<$<BOOL:${ENABLE_PIECEPICK}>:WITH_PIECEPICK>\n"),
     before(BUILD, r" transmission::crypto_impl", "        $<$<BOOL:${ENABLE_PIECEPICK}>:piecepick::piecepick>\n"),
-    behind(f"{WISHLIST}.h", r"libtransmission/observable\.h", '#include "libtransmission/peer-mgr-piecepick.h"\n'),
-    before(f"{WISHLIST}.h", r"private:\n +class Impl;", guarded("    PiecePick piecepick;\n")),
-    before(f"{WISHLIST}.cc", r"return impl_->next\(", guarded(ASK)),
+    behind(f"{WISHLIST}.h", r"libtransmission/observable\.h", INCLUDE),
+    before(f"{WISHLIST}.h", r"private:\n +class Impl;", "    tr_piecepick(PiecePick piecepick;)\n"),
+    before(f"{WISHLIST}.cc", r"return impl_->next\(", ASK),
     fills(MANAGER, r"void remove_peer\(tr_peerMsgs", "        tr_piecepick(if (wishlist) { wishlist->piecepick.left(*peer); });\n"),
     fills(MANAGER, r"msgs->swarm == s\)", TOLD.replace("PEER", "msgs")),
     fills(MANAGER, r"static void peer_callback_webseed\(", TOLD.replace("PEER", "peer")),
     fills(MANAGER, r"ObserverTag, 8> const tags_;", RECHOKE),
     fills(MANAGER, r"GetNextRequests\(\) is called", ""),
     before(MANAGER, r"return swarm\.wishlist->next\(", "    tr_piecepick(swarm.wishlist->piecepick.ask_for(*swarm.tor, swarm.peers, *peer));\n"),
-    Edit(MESSAGES, r"got unrequested block[^\n]*\n[^\n]*(ReadState::Err)", "AfterUnwanted"),
-    Edit(MESSAGES, r"got completed block[^\n]*\n[^\n]*(ReadState::Err)", "AfterUnwanted"),
-    behind(f"{LIBRARY}/peer-msgs.h", r"^#include \"libtransmission/peer-common\.h\"", '#include "libtransmission/peer-io.h" // for ReadState\n'),
-    before(f"{LIBRARY}/peer-msgs.h", r"^class tr_peerMsgs : ", UNWANTED),
+    Edit(MESSAGES, r"got unrequested block[^\n]*\n[^\n]*(ReadState::Err)", "tr_after_unwanted"),
+    Edit(MESSAGES, r"got completed block[^\n]*\n[^\n]*(ReadState::Err)", "tr_after_unwanted"),
+    behind(f"{LIBRARY}/peer-msgs.h", r"^#include \"libtransmission/peer-common\.h\"", INCLUDE),
     behind(f"{LIBRARY}/torrent.h", r"if \(!is_bootstrapping\)\n +\{", guarded(CHANGED)),
 )
 

@@ -12,6 +12,7 @@
 
 namespace
 {
+auto constexpr MostPeers = size_t{ 1023U }; // with the disk they are 1,024 workers
 auto constexpr Deepest = uint32_t{ 800U }; // requests in flight at a peer
 auto constexpr LeastDepth = uint32_t{ 4U };
 auto constexpr LateMsec = uint64_t{ 10000U }; // a peer that sends no block for so long is late with all requests
@@ -29,7 +30,9 @@ uint32_t PiecePick::find(tr_peer const* peer) const
 void PiecePick::open(tr_torrent& tor)
 {
     tor_ = &tor;
-    workers_.resize(std::min(tor.peer_limit() + tor.webseed_count(), size_t{ 1023U })); // 1,024 with the disk
+    auto const n_workers = std::max(tor.peer_limit() + tor.webseed_count(), 2U * std::size(workers_));
+    auto known = std::vector<Worker>(std::min(n_workers, MostPeers));
+    known.swap(workers_);
     auto digests = std::vector<tr_sha1_digest_t>(tor.piece_count());
     std::generate(std::begin(digests), std::end(digests), [&tor, piece = 0U]() mutable { return tor.piece_hash(piece++); });
     options_.workers = std::size(workers_) + 1U;
@@ -43,6 +46,7 @@ void PiecePick::open(tr_torrent& tor)
     picker_.reset(picker, [](auto* closed) { piecepick_close(&closed); });
     restore();
     set_levels();
+    std::for_each(std::begin(known), std::end(known), [this](auto const& old) { join(*old.peer, old.is_bad); });
     tags_ = { tor.got_bad_piece_.observe([this](auto*, auto piece) { verdict(piece, false); }),
               tor.piece_completed_.observe([this](auto*, auto piece) { verdict(piece, true); }),
               tor.priority_changed_.observe([this](auto*, auto const*, auto, auto) { set_levels(); }),
@@ -80,21 +84,31 @@ void PiecePick::set_levels()
     call(piecepick_set_in_order, tor_->is_sequential_download() ? 1U : 0U);
 }
 
-void PiecePick::join(tr_peer& peer)
+void PiecePick::join(tr_peer& peer, bool is_alone)
 {
     auto const worker = find(nullptr);
-    serves_ = serves_ && worker < std::size(workers_);
-    call(piecepick_join, worker);
-    if (serves_)
+    if (!serves_ || worker == std::size(workers_) || find(&peer) != std::size(workers_))
     {
-        workers_[worker].peer = &peer;
-        workers_[worker].msgs = dynamic_cast<tr_peerMsgs*>(&peer);
-        piecepick_depth_by_rate_begin(&workers_[worker].rate, &options_, tr_time_msec());
-        workers_[worker].rate.deepest = 4096U; // what comes in a second may be more than is in flight
-        call(piecepick_alone, worker, 1U);
-        is_alone_ = true;
-        show(worker);
+        return; // where no worker is free, ask_for() opens a larger picker
     }
+    call(piecepick_join, worker);
+    workers_[worker].peer = &peer;
+    workers_[worker].msgs = dynamic_cast<tr_peerMsgs*>(&peer);
+    workers_[worker].heard_at = tr_time_msec();
+    piecepick_depth_by_rate_begin(&workers_[worker].rate, &options_, workers_[worker].heard_at);
+    workers_[worker].rate.deepest = 4096U; // what comes in a second may be more than is in flight
+    show(worker);
+    call(piecepick_unchoke, worker);
+    call(piecepick_depth, worker, options_.deepest);
+    for (tr_block_index_t block = 0U; block < tor_->block_count() && peer.active_requests.count() != 0U; ++block)
+    {
+        if (auto const loc = tor_->block_loc(block); peer.active_requests.test(block))
+        {
+            call(piecepick_requested, worker, loc.piece, loc.piece_offset);
+        }
+    }
+    call(piecepick_alone, worker, is_alone ? 1U : 0U);
+    is_alone_ = is_alone_ || is_alone;
 }
 
 void PiecePick::show(uint32_t worker)
@@ -190,16 +204,14 @@ void PiecePick::verdict(tr_piece_index_t piece, bool passed)
 
 void PiecePick::ask_for(tr_torrent& tor, std::vector<tr_peerMsgs*> const& peers, tr_peer const& peer)
 {
-    if (tor_ == nullptr)
+    if (std::size(workers_) < MostPeers && find(&peer) == std::size(workers_) && find(nullptr) == std::size(workers_))
     {
         open(tor);
         std::for_each(std::begin(peers), std::end(peers), [this](auto* other) { join(*other); });
     }
-    if (find(&peer) == std::size(workers_))
-    {
-        join(const_cast<tr_peer&>(peer));
-    }
+    join(const_cast<tr_peer&>(peer));
     asked_ = find(&peer);
+    serves_ = serves_ && asked_ < std::size(workers_);
 }
 
 std::optional<std::vector<tr_block_span_t>> PiecePick::next(size_t n_wanted_blocks)

@@ -23,7 +23,6 @@ class PiecePick
 {
 public:
     void ask_for(tr_torrent& tor, std::vector<tr_peerMsgs*> const& peers, tr_peer const& peer);
-
     // the next blocks to request from whom ask_for() named, or nothing where the library can't serve
     [[nodiscard]] std::optional<std::vector<tr_block_span_t>> next(size_t n_wanted_blocks);
     void told(tr_peer& peer, tr_peer_event const& event);
@@ -57,7 +56,7 @@ private:
     void open(tr_torrent& tor);
     void restore();
     void set_levels();
-    void join(tr_peer& peer);
+    void join(tr_peer& peer, bool is_alone = true);
     void show(uint32_t worker);
     void came(Worker& worker, tr_peer_event const& event);
     void verdict(tr_piece_index_t piece, bool passed);
@@ -75,8 +74,10 @@ private:
     std::array<libtransmission::ObserverTag, 4U> tags_;
 };
 
-// What is put into peer-mgr.cc is nothing without the library.
+// What is put into other files is nothing without the library.
 #define tr_piecepick(code) code
+#define tr_after_unwanted ReadState::Now // behind a block that nobody waits for: at Err the next bytes stay unread until more come
 #else
 #define tr_piecepick(code)
+#define tr_after_unwanted ReadState::Err
 #endif

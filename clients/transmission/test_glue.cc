@@ -248,6 +248,39 @@ void test_shows(tr_torrent& tor)
     auto const blocks = set_of(one.ask(tor, Blocks));
     check(std::size(blocks) == BlocksPerPiece && *std::begin(blocks) == 3U * BlocksPerPiece, "a peer is asked for what it shows");
 }
+
+void test_in_flight(tr_torrent& tor)
+{
+    auto pick = PiecePick{};
+    auto one = Peer{ tor, pick };
+    auto two = Peer{ tor, pick };
+    one.active_requests.set_span(0U, BlocksPerPiece);
+    auto const next = one.ask(tor, 1U);
+    check(next.front() >= BlocksPerPiece, "a peer isn't asked again for what was in flight before the picker was");
+    auto const others = set_of(two.ask(tor, Blocks));
+    check(*std::begin(others) >= BlocksPerPiece, "nor is another one");
+    check(std::size(others) == Blocks - BlocksPerPiece - 1U, "which is asked for all that isn't in flight");
+}
+
+void test_more_peers(tr_torrent& tor)
+{
+    auto const limit = tor.peer_limit();
+    tor.set_peer_limit(1U);
+    auto pick = PiecePick{};
+    auto one = Peer{ tor, pick };
+    auto two = Peer{ tor, pick };
+    auto three = Peer{ tor, pick };
+    auto const first = one.ask(tor, Blocks / 4U);
+    auto all = set_of(first);
+    all.merge(set_of(two.ask(tor, Blocks / 4U)));
+    all.merge(set_of(three.ask(tor, Blocks / 4U)));
+    check(std::size(all) == 3U * Blocks / 4U, "with more peers than its limit a torrent has a picker that knows what is in flight");
+
+    pick.left(one);
+    one.active_requests.set_has_none();
+    check(set_of(three.ask(tor, Blocks)).count(first.back()) == 1U, "and that frees it once its peer leaves");
+    tor.set_peer_limit(limit);
+}
 } // namespace
 
 int main(int argc, char** argv)
@@ -265,6 +298,8 @@ int main(int argc, char** argv)
     test_choke(*tor);
     test_choice(*tor);
     test_shows(*tor);
+    test_in_flight(*tor);
+    test_more_peers(*tor);
 
     auto pick = PiecePick{};
     auto* const odd = torrent(session, BlocksPerPiece * tr_block_info::BlockSize + 1024U);
